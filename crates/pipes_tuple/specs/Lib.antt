@@ -1,3 +1,4 @@
 pub mod Equal
+pub mod Kinds
 pub mod Texts
 pub mod Bag

@@ -1,0 +1,3 @@
+mod ByName
+mod Copied
+mod FailingReads

@@ -1,0 +1,9 @@
+pub mod Query
+pub mod Entry
+pub mod Right
+pub mod Form
+pub mod Outcome
+pub mod Pieces
+pub mod Seen
+pub mod Written
+pub mod Steps
