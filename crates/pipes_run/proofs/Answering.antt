@@ -1,5 +1,5 @@
 -- The elements of the rows that pass are the answer.
-use Rattle.std.proofs.Common.{◌≡◌, ℕ, ℤ, ◌+◌, ◌≤◌, ◌<◌, min, List, [], ◌∷◌, ◌++◌, length, take, drop, get_or, Option, Bool, true, false, cond, refl, sym, ◌∙◌, ap, subst, arith, append_assoc, nat_le, nat_lt, ◌&&◌, map, filter}
+use Rattle.std.proofs.Common.{◌≡◌, ℕ, ℤ, ◌+◌, ◌≤◌, ◌<◌, min, List, [], ◌∷◌, ◌++◌, length, take, drop, get_or, Option, Bool, true, false, cond, refl, sym, ◌∙◌, ap, subst, arith, append_assoc, nat_le, nat_lt, ◌&&◌, map, filter, string_bytes}
 use Rattle.std.specs.List.{All}
 use Rattle.std.specs.Ordering.{int_cmp, is_lt}
 use Rattle.std.proofs.lemmas.Bool.Decides.{nat_tests}
@@ -15,15 +15,16 @@ use Rattle.pipes_stream.specs.Snapshot.{is_held, snapshot}
 use Rattle.pipes_run.specs.declared.query.Query.{Query}
 use Rattle.pipes_run.specs.declared.query.Row.{Row}
 use Rattle.pipes_run.specs.Query as meaning
-use Rattle.pipes_run.specs.Query.{in_window, is_true, Lt, Int, Col, Time, answer, schema_of}
+use Rattle.pipes_plan.specs.declared.expr.Expr.TheVariants.{Lt, Int, Col}
+use Rattle.pipes_plan.specs.ExprValue.{passes}
+use Rattle.pipes_run.specs.Query.{in_window, Time, answer, schema_of}
 use Rattle.pipes_run.specs.Entry.{Entry, Result, Beat, End, line, lines, results, starts}
 use Rattle.pipes_run.specs.Right.{NeverFall, Ordered, Right, Final, IsResultOf}
 use Rattle.pipes_run.specs.Seen.{query_seen, rows_seen}
 use Rattle.pipes_run.specs.Written.{element_of, elements, entries_of, result_lines, list_of, PassesOn, StampsNeverFall}
 use Rattle.pipes_run.specs.Pieces.{AppendsFront}
-use Rattle.pipes_run.proofs.Appended.{front_as, front_in, front_after, front_whole}
-use Rattle.std.specs.Io.KnownBytes.{Appends}
-use Rattle.std.proofs.KnownBytes.{Appends-trans}
+use Rattle.pipes_run.proofs.Above.{passes-above, alg-above, schema-above}
+use Rattle.pipes_run.proofs.Passing.{front-of_passed, front-of_stopped, passed-grown}
 
 -- what a run's entries show
 
@@ -46,12 +47,12 @@ clipped : (s w t : ℕ) → t < horizon → nat_lt t (min (s + w) horizon) ≡ n
 clipped s w t h = grind (arith, nat_tests)
 
 -- the elements that are valid are those of the valid rows that pass
-pub snapshot-elements : (size : ℕ) (bound : ℤ) (rows : List Row) (t : ℕ) → t < horizon → snapshot (elements size bound rows) t ≡ filter (is_true (Lt (Int bound) (Col 0))) (in_window (Time size) (rows_seen rows) t)
+pub snapshot-elements : (size : ℕ) (bound : ℤ) (rows : List Row) (t : ℕ) → t < horizon → snapshot (elements size bound rows) t ≡ filter (passes (Lt (Int bound) (Col 0))) (in_window (Time size) (rows_seen rows) t)
 snapshot-elements size bound [] t below = refl
 snapshot-elements size bound (r ∷ rs) t below =
     let span : Span = record { start = r.stamp; end = min (r.stamp + size) horizon } in
     let held : is_held span t ≡ (nat_le r.stamp t && nat_lt t (r.stamp + size)) = ap (λ (c : Bool). nat_le r.stamp t && c) (clipped r.stamp size t below) in
-    one_row (values.Int r.value ∷ []) r.stamp t span (elements size bound rs) (filter (λ (q : meaning.Row). nat_le q.stamp t && nat_lt t (q.stamp + size)) (rows_seen rs)) (is_true (Lt (Int bound) (Col 0))) (is_lt (int_cmp bound r.value)) (nat_le r.stamp t && nat_lt t (r.stamp + size)) refl held (snapshot-elements size bound rs t below)
+    one_row (values.Int r.value ∷ []) r.stamp t span (elements size bound rs) (filter (λ (q : meaning.Row). nat_le q.stamp t && nat_lt t (q.stamp + size)) (rows_seen rs)) (passes (Lt (Int bound) (Col 0))) (is_lt (int_cmp bound r.value)) (nat_le r.stamp t && nat_lt t (r.stamp + size)) (passes-above bound r.value) held (snapshot-elements size bound rs t below)
 
 earlier : (low high : ℕ) (rows : List Row) → low ≤ high → StampsNeverFall high rows → StampsNeverFall low rows
 earlier low high [] le h = tt
@@ -66,7 +67,7 @@ rising-elements size bound low (r ∷ rs) h = go (is_lt (int_cmp bound r.value))
     go false next skip = skip
 
 typed-element : (query : Query) (r : Row) → IsResultOf (query_seen query) (element_of query.size r)
-typed-element query r = let sized = query.sized in let instant = r.instant in ((omega arith, omega arith), refl)
+typed-element query r = let sized = query.sized in let instant = r.instant in ((omega arith, omega arith), sym (schema-above (string_bytes query.file) query.size query.bound))
 
 typed-elements : (query : Query) (rows : List Row) → All (IsResultOf (query_seen query)) (elements query.size query.bound rows)
 typed-elements query [] = All-nil (IsResultOf (query_seen query))
@@ -108,7 +109,7 @@ pub right-entries : (query : Query) (rows : List Row) → StampsNeverFall 0 rows
 right-entries query rows stamps = record {
   ordered = ordered-entries query rows stamps;
   answers = λ t below. record {
-    counts = λ tuple. ap (λ (l : List (List Value)). count tuple l) (ap (λ (l : List Elem). snapshot l t) (results-entries (elements query.size query.bound rows)) ∙ snapshot-elements query.size query.bound rows t below);
+    counts = λ tuple. ap (λ (l : List (List Value)). count tuple l) (ap (λ (l : List Elem). snapshot l t) (results-entries (elements query.size query.bound rows)) ∙ snapshot-elements query.size query.bound rows t below ∙ sym (alg-above query.bound (in_window (Time query.size) (rows_seen rows) t)));
   };
 }
 
@@ -171,30 +172,12 @@ result_lines-element query r o is = ap (λ (l : List Elem). lines (map Result l)
 
 -- what was passed on is a front of all
 pub front-passed : (init cur : Option (List ℕ)) (query : Query) (rows : List Row) (i : ℕ) (kept : List ℕ) → PassesOn init cur (result_lines query (take i rows)) kept → AppendsFront init cur (lines (entries_of query rows))
-front-passed init cur query rows i kept passed =
-    let whole = result_lines-front query rows i in
-    let split : passed.0 ++ (kept ++ whole.0) ≡ lines (entries_of query rows) = sym (append_assoc passed.0 kept whole.0) ∙ ap (λ (l : List ℕ). l ++ whole.0) (sym passed.2) ∙ sym whole.1 in
-    front_as init cur _ _ split (front_whole init cur passed.0 (kept ++ whole.0) passed.1)
+front-passed init cur query rows i kept passed = let whole = result_lines-front query rows i in front-of_passed init cur _ _ kept whole.0 whole.1 passed
 
 -- what was passed on, and a front of the rest, are a front of all
 pub front-stopped : (init cur new : Option (List ℕ)) (query : Query) (rows : List Row) (i : ℕ) (kept : List ℕ) → PassesOn init cur (result_lines query (take i rows)) kept → AppendsFront cur new kept → AppendsFront init new (lines (entries_of query rows))
-front-stopped init cur new query rows i kept passed front =
-    let whole = result_lines-front query rows i in
-    let split : (passed.0 ++ kept) ++ whole.0 ≡ lines (entries_of query rows) = ap (λ (l : List ℕ). l ++ whole.0) (sym passed.2) ∙ sym whole.1 in
-    front_as init new _ _ split (front_in init new (passed.0 ++ kept) whole.0 (front_after init cur new passed.0 kept passed.1 front))
-
-pub passed-grown : (init cur : Option (List ℕ)) (text kept more text' kept' : List ℕ) → PassesOn init cur text kept → text' ≡ text ++ more → kept' ≡ kept ++ more → PassesOn init cur text' kept'
-passed-grown init cur text kept more text' kept' passed e f = (passed.0, passed.1, e ∙ ap (λ (l : List ℕ). l ++ more) passed.2 ∙ append_assoc passed.0 kept more ∙ ap (λ (l : List ℕ). passed.0 ++ l) (sym f))
-
-pub passed-on : (init cur new : Option (List ℕ)) (text kept left : List ℕ) → PassesOn init cur text kept → PassesOn cur new kept left → PassesOn init new text left
-passed-on init cur new text kept left passed more = (passed.0 ++ more.0, Appends-trans init cur new passed.0 more.0 passed.1 more.1, passed.2 ∙ ap (λ (l : List ℕ). passed.0 ++ l) more.2 ∙ sym (append_assoc passed.0 more.0 left))
+front-stopped init cur new query rows i kept passed front = let whole = result_lines-front query rows i in front-of_stopped init cur new _ _ kept whole.0 whole.1 passed front
 
 -- after the last row, and `end`
 pub passed-end : (init cur : Option (List ℕ)) (query : Query) (rows : List Row) (i : ℕ) (kept kept' : List ℕ) → length rows ≤ i → PassesOn init cur (result_lines query (take i rows)) kept → kept' ≡ kept ++ line End → PassesOn init cur (lines (entries_of query rows)) kept'
 passed-end init cur query rows i kept kept' all passed grown = passed-grown init cur (result_lines query (take i rows)) kept (line End) (lines (entries_of query rows)) kept' passed (lines-entries query rows i all) grown
-
-pub all-passed : (init cur new : Option (List ℕ)) (text kept : List ℕ) → PassesOn init cur text kept → Appends cur new kept → Appends init new text
-all-passed init cur new text kept passed more = subst (λ (l : List ℕ). Appends init new l) (sym passed.2) (Appends-trans init cur new passed.0 kept passed.1 more)
-
-pub front-last : (init cur new : Option (List ℕ)) (text kept : List ℕ) → PassesOn init cur text kept → AppendsFront cur new kept → AppendsFront init new text
-front-last init cur new text kept passed front = front_as init new (passed.0 ++ kept) text (sym passed.2) (front_after init cur new passed.0 kept passed.1 front)

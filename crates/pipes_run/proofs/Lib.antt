@@ -3,6 +3,10 @@ pub mod Spelling
 pub mod Cutting
 pub mod Numbers
 pub mod Fronts
+pub mod Above
+pub mod Passing
 pub mod Answering
+pub mod Tuples
+pub mod Commands
 pub mod Planned
 pub mod Ending

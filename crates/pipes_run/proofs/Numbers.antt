@@ -1,5 +1,5 @@
 -- Digits, and names of plain bytes, are ASCII; what digits write.
-use Rattle.std.proofs.Common.{◌≡◌, ℕ, ◌≤◌, ◌<◌, ◌^◌, List, [], ◌∷◌, length, Bool, true, false, Option, Some, Result, Ok, Err, MatchResult, IsOk, nat_le, IfSome, refl, sym, subst, ◌∙◌, ap, ◌&&◌, arith, get_or}
+use Rattle.std.proofs.Common.{◌≡◌, ℕ, ◌≤◌, ◌<◌, ◌^◌, List, [], ◌∷◌, length, Bool, true, false, Option, Some, None, Result, Ok, Err, MatchResult, IsOk, nat_le, nat_lt, IfSome, refl, sym, subst, ◌∙◌, ap, ◌&&◌, arith, get_or}
 use Rattle.std.specs.List.{list_all}
 use Rattle.std.specs.Char.{is_ascii_digit}
 use Rattle.std.specs.Str.{IsAscii, IsUtf8, all_ascii_digits}
@@ -12,8 +12,10 @@ use Rattle.std.proofs.lemmas.Int.Digits.{digits_value-lt}
 use Rattle.std.proofs.lemmas.List.Sums.{AllPass-from_list_all}
 use Rattle.std.proofs.lemmas.Bool.Decides.{nat_tests}
 use Rattle.std.specs.Result.{OkIff, result_ok}
-use Rattle.std.proofs.lemmas.Bool.{le-leb, leb-true}
+use Rattle.std.proofs.lemmas.Bool.{le-leb, leb-true, ltb-true}
 use Rattle.std.proofs.Math.Nat.{pow-le-pow_right}
+use Rattle.pipes_time.specs.Interval.{horizon}
+use Rattle.pipes_run.specs.Outcome.{instant_of}
 use Rattle.pipes_run.specs.Form.{is_file, is_file_byte, number, when}
 
 pub digits_test : (ds : List ℕ) → all_ascii_digits ds ≡ list_all is_ascii_digit ds
@@ -71,3 +73,16 @@ number-below bs most o bound is = subst (λ (p : Option ℕ). IfSome p (λ n. n 
     go true true false digits few = tt
     go true false r digits few = tt
     go false q r digits few = tt
+
+-- digits whose number is not read write no instant
+pub instant-none : {E : Type 0} (bs : List ℕ) (r : Result ℕ E) → list_all is_ascii_digit bs ≡ true → ParsesUnsigned 64 10 bs r → result_ok r ≡ None → None ≡ instant_of bs
+instant-none bs (Ok x) digits parses none = cc
+instant-none {E} bs (Err e) digits parses none = go (nat_lt 0 (length bs)) (nat_lt (digits_value 10 bs) horizon) refl refl
+  where
+    refused : ¬ ((0 < length bs) × (digits_value 10 bs < 2 ^ 64))
+    refused = parse_digits numerals 64 bs (Err e) parses (digits_test bs ∙ digits)
+
+    go : (p q : Bool) → nat_lt 0 (length bs) ≡ p → nat_lt (digits_value 10 bs) horizon ≡ q → None ≡ instant_of bs
+    go false q some low = rw some refl
+    go true false some low = rw (some, digits, low) refl
+    go true true some low = let within = ltb-true 0 (length bs) some in let small = ltb-true (digits_value 10 bs) horizon low in absurd (refused (within, omega arith))

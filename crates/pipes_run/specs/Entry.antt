@@ -1,6 +1,7 @@
 -- What a run writes: entries, each with its one line.
 use Rattle.std.specs.Prelude.{◌≡◌, ℕ, List, [], ◌∷◌, ◌++◌, codes, flat_map}
 use Rattle.std.specs.Fmt.{decimal}
+use Rattle.std.specs.List.{join_by}
 use Rattle.pipes_tuple.specs.declared.value.Value.{Value}
 use Rattle.pipes_tuple.specs.Texts.{text_of}
 use Rattle.pipes_stream.specs.declared.Elem.{Elem}
@@ -20,6 +21,13 @@ abbrev pub line : Entry → List ℕ
 line (Result e) = codes "+ " ++ decimal e.span.start ++ codes " " ++ decimal e.span.end ++ fields_of e.tuple ++ codes "\n"
 line (Beat h) = codes "~ " ++ decimal h ++ codes "\n"
 line End = codes "end\n"
+
+-- the line of an answer's tuple
+abbrev pub tuple_line : List Value → List ℕ
+tuple_line tuple = join_by text_of (codes " ") tuple ++ codes "\n"
+
+abbrev pub tuple_lines : List (List Value) → List ℕ
+tuple_lines tuples = flat_map tuple_line tuples
 
 abbrev pub lines : List Entry → List ℕ
 lines entries = flat_map line entries

@@ -8,7 +8,10 @@ use Rattle.std.specs.Str.Parse.{digits_value}
 use Rattle.pipes_tuple.specs.declared.value.Kind.TheVariants as kinds
 use Rattle.pipes_tuple.specs.declared.value.Value.TheVariants as values
 use Rattle.pipes_run.specs.declared.form.TheConstants.{KEYWORDS}
-use Rattle.pipes_run.specs.Query.{Query, Row, Time, Col, Int, Lt, Source, Filter}
+use Rattle.pipes_plan.specs.declared.expr.Expr.TheVariants.{Col, Int, Lt}
+use Rattle.pipes_plan.specs.declared.plan.Plan.{Plan}
+use Rattle.pipes_plan.specs.declared.plan.Plan.TheVariants.{Source, Filter}
+use Rattle.pipes_run.specs.Query.{Query, Row, Time}
 
 infixl 10 ◌>>=◌
 abbrev pub ◌>>=◌ : {A B : Type 0} → Option A → (A → Option B) → Option B
@@ -66,11 +69,15 @@ names_are source file column = is_name source && not (is_keyword source) && is_f
 abbrev pub is_end : List ℕ → Bool
 is_end bs = bytes_eq bs [] || bytes_eq bs (codes "\n")
 
+-- the rows of the first source whose number is above the bound
+abbrev pub plan_above : ℤ → Plan
+plan_above bound = Filter (Lt (Int bound) (Col 0)) (Source 0)
+
 -- one source of numbers in a time window, and the rows whose number is above the bound
 abbrev pub query_above : List ℕ → ℕ → ℤ → Query
 query_above file size bound = record {
   sources = record { file = file; schema = kinds.Int ∷ []; window = Time size } ∷ [];
-  plan = Filter (Lt (Int bound) (Col 0)) (Source 0);
+  plan = plan_above bound;
 }
 
 -- `source W from "F" (C int) window time N`, a line feed, `plan filter((I < $0), W)`, and perhaps a line feed

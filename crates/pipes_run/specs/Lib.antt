@@ -2,6 +2,7 @@ pub mod Query
 pub mod Entry
 pub mod Right
 pub mod Form
+pub mod Names
 pub mod Outcome
 pub mod Pieces
 pub mod Seen

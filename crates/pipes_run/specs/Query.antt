@@ -1,18 +1,10 @@
 -- Queries, the rows of their sources, and the answer at an instant.
-use Rattle.std.specs.Prelude.{ℕ, ℤ, pos, ◌+◌, zero, suc, List, [], ◌∷◌, Bool, false, nat_le, nat_lt, ◌&&◌, map, filter, slice_index_or}
-use Rattle.std.specs.Ordering.{int_cmp, is_lt}
+use Rattle.std.specs.Prelude.{ℕ, ◌+◌, List, [], ◌∷◌, nat_le, nat_lt, ◌&&◌, map, filter, unwrap_or}
 use Rattle.pipes_tuple.specs.declared.value.Kind.{Kind}
 use Rattle.pipes_tuple.specs.declared.value.Value.{Value}
-use Rattle.pipes_tuple.specs.declared.value.Value.TheVariants as values
-
-pub data Expr : Type 0 where
-  Col : ℕ → Expr
-  Int : ℤ → Expr
-  Lt : Expr → Expr → Expr
-
-pub data Plan : Type 0 where
-  Source : ℕ → Plan
-  Filter : Expr → Plan → Plan
+use Rattle.pipes_plan.specs.declared.plan.Plan.{Plan}
+use Rattle.pipes_plan.specs.Algebra.{alg}
+use Rattle.pipes_plan.specs.PlanKinds.{plan_kinds}
 
 -- a time window: a row is valid from its stamp on, for so many instants
 pub data Window : Type 0 where
@@ -31,33 +23,9 @@ pub record Row : Type 0 where
   pub stamp : ℕ
   pub tuple : List Value
 
--- the number in a column
-abbrev pub column : List Value → ℕ → ℤ
-column [] i = pos 0
-column (values.Int n ∷ vs) zero = n
-column (v ∷ vs) (suc i) = column vs i
-
--- the value of an expression that is a number
-abbrev pub number_of : Expr → List Value → ℤ
-number_of (Col i) tuple = column tuple i
-number_of (Int n) tuple = n
-number_of (Lt a b) tuple = pos 0
-
--- the value of an expression that is a flag
-abbrev pub is_true : Expr → List Value → Bool
-is_true (Lt a b) tuple = is_lt (int_cmp (number_of a tuple) (number_of b tuple))
-is_true (Col i) tuple = false
-is_true (Int n) tuple = false
-
--- the relational answer of a plan over the rows of its sources
-abbrev pub alg : Plan → List (List (List Value)) → List (List Value)
-alg (Source i) bags = slice_index_or bags i []
-alg (Filter condition plan) bags = filter (is_true condition) (alg plan bags)
-
--- the kinds of the rows of that answer
-abbrev pub schema_of : Plan → List SourceDecl → List Kind
-schema_of (Source i) sources = slice_index_or (map (λ s. s.schema) sources) i []
-schema_of (Filter condition plan) sources = schema_of plan sources
+-- the kinds of the rows of a query's answer
+abbrev pub schema_of : Query → List Kind
+schema_of query = unwrap_or (plan_kinds query.plan (map (λ s. s.schema) query.sources)) []
 
 -- the rows that are valid at the instant
 abbrev pub in_window : Window → List Row → ℕ → List (List Value)

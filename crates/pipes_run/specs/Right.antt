@@ -15,7 +15,7 @@ NeverFall low (n ∷ ns) = (low ≤ n) × NeverFall n ns
 
 -- an interval, and a tuple of the query's result schema
 abbrev pub IsResultOf : Query → Elem → Type 0
-IsResultOf query e = IsInterval e.span.start e.span.end × Fits e.tuple (schema_of query.plan query.sources)
+IsResultOf query e = IsInterval e.span.start e.span.end × Fits e.tuple (schema_of query)
 
 -- starts and heartbeats never fall, and each result is one of the query's
 pub record Ordered (query : Query) (entries : List Entry) : Type 0 where

@@ -5,19 +5,31 @@ use Rattle.pipes_run.specs.Query as meaning
 use Rattle.pipes_run.specs.Form.{query_above}
 use Rattle.pipes_run.specs.Outcome as outcome
 use Rattle.pipes_run.specs.declared.words.RunCommand.{RunCommand}
+use Rattle.pipes_run.specs.declared.words.AtCommand.{AtCommand}
+use Rattle.pipes_run.specs.declared.words.Command.{Command}
+use Rattle.pipes_run.specs.declared.words.Command.TheVariants as commands
 use Rattle.pipes_run.specs.declared.fault.FileName.{FileName}
 use Rattle.pipes_run.specs.declared.fault.FileName.TheVariants as names
 use Rattle.pipes_run.specs.declared.fault.Fault.{Fault}
 use Rattle.pipes_run.specs.declared.fault.Fault.TheVariants as faults
 use Rattle.pipes_run.specs.declared.fault.FileFault.{FileFault}
 use Rattle.pipes_run.specs.declared.fault.FileFault.TheVariants as file_faults
+use Rattle.pipes_run.specs.declared.output.WriteFault.{WriteFault}
+use Rattle.pipes_run.specs.declared.output.WriteFault.TheVariants as write_faults
 use Rattle.pipes_run.specs.declared.query.Query.{Query}
 use Rattle.pipes_run.specs.declared.query.QueryText.{QueryText}
 use Rattle.pipes_run.specs.declared.query.Row.{Row}
-use Rattle.pipes_run.specs.declared.job.Job.{Job}
+use Rattle.pipes_run.specs.declared.job.Asked.{Asked}
 
-abbrev pub command_seen : RunCommand → outcome.Command
-command_seen run = outcome.Run run.query.now run.script.now
+abbrev pub run_seen : RunCommand → outcome.Command
+run_seen run = outcome.Run run.query.now run.script.now
+
+abbrev pub at_seen : AtCommand → outcome.Command
+at_seen at = outcome.At at.query.now at.time
+
+abbrev pub command_seen : Command → outcome.Command
+command_seen (commands.Run run) = run_seen run
+command_seen (commands.At at) = at_seen at
 
 abbrev pub name_seen : FileName → List ℕ
 name_seen (names.Word name) = name.now
@@ -50,10 +62,28 @@ row_seen row = record { stamp = row.stamp; tuple = values.Int row.value ∷ [] }
 abbrev pub rows_seen : List Row → List meaning.Row
 rows_seen rows = map row_seen rows
 
-abbrev pub job_seen : Job → outcome.Job
-job_seen job = outcome.RunOver (query_seen job.query) (rows_seen job.rows.items ∷ [])
+-- the rows of the query's only source
+abbrev pub items_seen : Asked → List (List meaning.Row)
+items_seen asked = rows_seen asked.rows.items ∷ []
+
+-- a run over what was asked for
+abbrev pub run_job : Asked → outcome.Job
+run_job asked = outcome.RunOver (query_seen asked.query) (items_seen asked)
+
+-- the answer to what was asked for at an instant
+abbrev pub at_job : ℕ → Asked → outcome.Job
+at_job time asked = outcome.AnswerAt (query_seen asked.query) (items_seen asked) time
 
 -- the fault that a step ended with, if there was one
 abbrev pub fault_of : {T : Type 0} → Result T Fault → Option outcome.Fault
 fault_of (Ok x) = None
 fault_of (Err fault) = Some (fault_seen fault)
+
+abbrev pub write_fault_seen : WriteFault → outcome.Fault
+write_fault_seen write_faults.Failed = outcome.Write
+write_fault_seen write_faults.Memory = outcome.Memory
+
+-- the fault that writing ended with, if there was one
+abbrev pub write_fault_of : Result (Unit {0}) WriteFault → Option outcome.Fault
+write_fault_of (Ok u) = None
+write_fault_of (Err fault) = Some (write_fault_seen fault)

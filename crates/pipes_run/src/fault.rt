@@ -1,9 +1,11 @@
 // Why a call ends with another status than 0, and the line that tells of it.
-ghost use Rattle.std.specs.Prelude.{◌≡◌, ◌<◌, ◌++◌, Some, OnOk, OnErr, MatchOption, IfSome, IsTrue, flat_map, length, List, ℕ};
+ghost use Rattle.std.specs.Prelude.{◌≡◌, ◌<◌, ◌++◌, Some, OnOk, OnErr, MatchOption, IfSome, IsTrue, length, List, ℕ};
 ghost use Rattle.std.specs.Io.KnownBytes.{Appends};
 ghost use Rattle.std.specs.List.{position_from};
 ghost use Rattle.pipes_edge.specs.Causes.{HasCause};
-ghost use Rattle.pipes_run.specs.Outcome.{status_of, fault_line, is_escaped, spelled, Says};
+ghost use Rattle.pipes_run.specs.Outcome.{status_of, fault_line, Says};
+ghost use Rattle.pipes_tuple.specs.Texts.{escaped, escaped_byte};
+ghost use Rattle.pipes_run.specs.Names.{is_escaped};
 ghost use Rattle.pipes_run.specs.Pieces.{AppendsFront};
 ghost use Rattle.pipes_run.specs.Seen.{name_seen, fault_seen, file_fault_seen};
 ghost use Rattle.pipes_run.specs.declared.fault.FileFault.TheVariants as file_faults;
@@ -92,7 +94,7 @@ pub(crate) fn say<K: Sink>(err: &mut K, fault: &Fault<'_>)
 
 // What stands before the name, the name, and what stands behind it.
 fn parts<'a>(fault: &'a Fault<'_>) -> (&'static [u8], &'a str, &'static [u8])
-    ensures { fault_line (Some (fault_seen fault.now)) ≡ result.0.now ++ flat_map spelled result.1.now ++ result.2.now }
+    ensures { fault_line (Some (fault_seen fault.now)) ≡ result.0.now ++ escaped result.1.now ++ result.2.now }
 {
     match fault {
         Fault::Words => (b"pipes: words\n", "", b""),
@@ -125,8 +127,8 @@ fn write_both<K: Sink>(err: &mut K, first: &[u8], second: &[u8]) -> Result<(), F
 }
 
 fn say_line<K: Sink>(err: &mut K, head: &[u8], name: &[u8], tail: &[u8]) -> Result<(), Failed>
-    ensures ok { OnOk result (Appends (K.written err.old) (K.written err.new) (head.now ++ flat_map spelled name.now ++ tail.now)) }
-    ensures front { OnErr result (AppendsFront (K.written err.old) (K.written err.new) (head.now ++ flat_map spelled name.now ++ tail.now)) }
+    ensures ok { OnOk result (Appends (K.written err.old) (K.written err.new) (head.now ++ escaped name.now ++ tail.now)) }
+    ensures front { OnErr result (AppendsFront (K.written err.old) (K.written err.new) (head.now ++ escaped name.now ++ tail.now)) }
     ensures cause { HasCause (K.faults err.old) (K.faults err.new) result }
 {
     write_all(err, head)?;
@@ -136,8 +138,8 @@ fn say_line<K: Sink>(err: &mut K, head: &[u8], name: &[u8], tail: &[u8]) -> Resu
 
 // Writes the name spelled out, the bytes that stand for themselves in one piece.
 fn say_name<K: Sink>(err: &mut K, name: &[u8]) -> Result<(), Failed>
-    ensures ok { OnOk result (Appends (K.written err.old) (K.written err.new) (flat_map spelled name.now)) }
-    ensures front { OnErr result (AppendsFront (K.written err.old) (K.written err.new) (flat_map spelled name.now)) }
+    ensures ok { OnOk result (Appends (K.written err.old) (K.written err.new) (escaped name.now)) }
+    ensures front { OnErr result (AppendsFront (K.written err.old) (K.written err.new) (escaped name.now)) }
     ensures cause { HasCause (K.faults err.old) (K.faults err.new) result }
 {
     let mut rest = name;
@@ -150,7 +152,7 @@ fn say_name<K: Sink>(err: &mut K, name: &[u8]) -> Result<(), Failed>
 
 // What stands before the first byte that is escaped, that byte's spelling, and what follows it.
 fn first_escape(name: &[u8]) -> Option<(&[u8], &'static [u8], &[u8])>
-    ensures cases { MatchOption result (flat_map spelled name.now ≡ name.now) (λ r. flat_map spelled name.now ≡ r.0.now ++ r.1.now ++ flat_map spelled r.2.now) }
+    ensures cases { MatchOption result (escaped name.now ≡ name.now) (λ r. escaped name.now ≡ r.0.now ++ r.1.now ++ escaped r.2.now) }
     ensures shorter { IfSome result (λ r. length r.2.now < length name.now) }
 {
     match escape_place(name) {
@@ -172,12 +174,12 @@ fn escape_place(name: &[u8]) -> Option<usize>
 fn is_escaped(byte: u8) -> bool
     ensures { result ≡ is_escaped byte }
 {
-    matches!(byte, b'\n' | b'\r' | b'"' | b'\\')
+    matches!(byte, b'\\' | b'"' | b'\n' | b'\r')
 }
 
 fn spelling(byte: u8) -> &'static [u8]
     requires { IsTrue (is_escaped byte) }
-    ensures { result.now ≡ spelled byte }
+    ensures { result.now ≡ escaped_byte byte }
 {
     match byte {
         b'\n' => b"\\n",

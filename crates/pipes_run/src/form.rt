@@ -202,7 +202,7 @@ fn number(bytes: &[u8], most: usize) -> Option<u64>
     ascii(bytes).parse().ok()
 }
 
-fn are_digits(bytes: &[u8]) -> bool
+pub(crate) fn are_digits(bytes: &[u8]) -> bool
     ensures { result ≡ list_all is_ascii_digit bytes.now }
 {
     bytes.iter().all(|b| b.is_ascii_digit())

@@ -3,9 +3,9 @@ ghost use Rattle.std.specs.Prelude.{◌≡◌, ◌<◌, ℕ, List, [], ◌∷◌
 ghost use Rattle.pipes_edge.specs.Causes.{Rose};
 ghost use Rattle.pipes_edge.specs.Outside.{Names, NoneFalls};
 ghost use Rattle.pipes_run.specs.Form.{query_of, script_of, rows_of};
-ghost use Rattle.pipes_run.specs.Outcome.{command_of, formed, job_of, job_of_command, HasCauseIn};
+ghost use Rattle.pipes_run.specs.Outcome.{formed, job_of_command, rows_of_sources, HasCauseIn};
 ghost use Rattle.pipes_run.specs.Outcome as outcome;
-ghost use Rattle.pipes_run.specs.Seen.{fault_seen, fault_of, file_fault_seen, query_seen, rows_seen, job_seen};
+ghost use Rattle.pipes_run.specs.Seen.{fault_seen, fault_of, file_fault_seen, run_seen, at_seen, query_seen, rows_seen, items_seen, run_job, at_job};
 ghost use Rattle.pipes_run.specs.Steps.{Gives, ReadsFile};
 ghost use Rattle.pipes_run.specs.Written.{StampsNeverFall};
 
@@ -14,61 +14,119 @@ use crate::form;
 use crate::form::MOST_BYTES;
 use crate::pieces::{BUFFER, ReadFault, read_up_to};
 use crate::query::{Query, Row};
-use crate::words::command_in;
+use crate::words::{AtCommand, RunCommand};
 use pipes_edge::{Files, FindFault};
 use std::alloc::Global;
 
 /// A query and the rows of its source.
 #[derive(Debug, Drop)]
-pub(crate) struct Job {
+pub(crate) struct Asked {
     pub(crate) query: Query,
     pub(crate) rows: Vec<Row>,
 }
 
-/// What the words and the files ask for, or the first fault.
-pub(crate) fn read_job<'w, F: Files>(
-    alloc: Global,
-    words: &'w [String],
-    files: &mut F,
-) -> Result<Job, Fault<'w>>
-    ensures later { NoneFalls (F.faults files.old) (F.faults files.new) }
-    ensures cause { IfErr result (λ e. HasCauseIn (F.faults files.old) (F.faults files.new) 0 0 (Some (fault_seen e))) }
-    ensures refused { (fault_of result ≡ Some outcome.Words) ↔ (command_of (map string_bytes words.now) ≡ None) }
-    ensures stamps { IfOk result (λ job. StampsNeverFall 0 job.rows.items) }
-    ensures gives { (named : Names) → F.told files.old ≡ Some named → Gives job_seen fault_seen result (job_of (map string_bytes words.now) named) }
-{
-    match command_in(words) {
-        None => Err(Fault::Words),
-        Some(run) => read_run(alloc, files, run.query, run.script),
-    }
-}
-
-// The query, the script without a byte, and then the rows of the query's source.
-fn read_run<'w, F: Files>(
+/// What a run is asked for: its query, its script, and the rows of the query's source.
+pub(crate) fn read_run<'w, F: Files>(
     alloc: Global,
     files: &mut F,
-    query: &'w str,
-    script: &'w str,
-) -> Result<Job, Fault<'w>>
+    run: RunCommand<'w>,
+) -> Result<Asked, Fault<'w>>
     ensures later { NoneFalls (F.faults files.old) (F.faults files.new) }
     ensures cause { IfErr result (λ e. HasCauseIn (F.faults files.old) (F.faults files.new) 0 0 (Some (fault_seen e))) }
     ensures served { fault_of result ≡ Some outcome.Words → ⊥ }
-    ensures stamps { IfOk result (λ job. StampsNeverFall 0 job.rows.items) }
-    ensures gives { (named : Names) → F.told files.old ≡ Some named → Gives job_seen fault_seen result (job_of_command (outcome.Run query.now script.now) named) }
+    ensures stamps { IfOk result (λ asked. StampsNeverFall 0 asked.rows.items) }
+    ensures gives { (named : Names) → F.told files.old ≡ Some named → Gives run_job fault_seen result (job_of_command (run_seen run.entry) named) }
 {
     let Ok(mut buffer) = Vec::from_elem(alloc, 0u8, BUFFER) else {
         return Err(Fault::Memory);
     };
-    let asked = match read_query(alloc, files, query, buffer.as_mut_slice()) {
-        Ok(asked) => asked,
-        Err(fault) => return Err(fault.at(FileName::Word(query))),
+    let query = match query_at(alloc, files, run.query, buffer.as_mut_slice()) {
+        Ok(query) => query,
+        Err(fault) => return Err(fault),
     };
-    if let Err(fault) = read_script(alloc, files, script, buffer.as_mut_slice()) {
-        return Err(fault.at(FileName::Word(script)));
+    if let Err(fault) = script_at(alloc, files, run.script, buffer.as_mut_slice()) {
+        return Err(fault);
     }
-    match read_rows(alloc, files, asked.file.as_str(), buffer.as_mut_slice()) {
-        Ok(rows) => Ok(Job { query: asked, rows }),
-        Err(fault) => Err(fault.at(FileName::OfSource(asked.file))),
+    rows_for(alloc, files, query, buffer.as_mut_slice())
+}
+
+/// What an answer is asked for: its query, and the rows of the query's source.
+pub(crate) fn read_at<'w, F: Files>(
+    alloc: Global,
+    files: &mut F,
+    at: AtCommand<'w>,
+) -> Result<Asked, Fault<'w>>
+    ensures later { NoneFalls (F.faults files.old) (F.faults files.new) }
+    ensures cause { IfErr result (λ e. HasCauseIn (F.faults files.old) (F.faults files.new) 0 0 (Some (fault_seen e))) }
+    ensures served { fault_of result ≡ Some outcome.Words → ⊥ }
+    ensures stamps { IfOk result (λ asked. StampsNeverFall 0 asked.rows.items) }
+    ensures gives { (named : Names) → F.told files.old ≡ Some named → Gives (at_job at.entry.time) fault_seen result (job_of_command (at_seen at.entry) named) }
+{
+    let Ok(mut buffer) = Vec::from_elem(alloc, 0u8, BUFFER) else {
+        return Err(Fault::Memory);
+    };
+    match query_at(alloc, files, at.query, buffer.as_mut_slice()) {
+        Ok(query) => rows_for(alloc, files, query, buffer.as_mut_slice()),
+        Err(fault) => Err(fault),
+    }
+}
+
+fn query_at<'w, F: Files>(
+    alloc: Global,
+    files: &mut F,
+    name: &'w str,
+    buffer: &mut [u8],
+) -> Result<Query, Fault<'w>>
+    requires { 0 < length buffer.old }
+    ensures told { F.told files.new ≡ F.told files.old }
+    ensures later { NoneFalls (F.faults files.old) (F.faults files.new) }
+    ensures cause { IfErr result (λ e. HasCauseIn (F.faults files.old) (F.faults files.new) 0 0 (Some (fault_seen e))) }
+    ensures served { fault_of result ≡ Some outcome.Words → ⊥ }
+    ensures gives { (named : Names) → F.told files.old ≡ Some named → Gives query_seen fault_seen result (formed query_of named name.now) }
+{
+    match read_query(alloc, files, name, buffer) {
+        Ok(query) => Ok(query),
+        Err(fault) => Err(fault.at(FileName::Word(name))),
+    }
+}
+
+fn script_at<'w, F: Files>(
+    alloc: Global,
+    files: &mut F,
+    name: &'w str,
+    buffer: &mut [u8],
+) -> Result<(), Fault<'w>>
+    requires { 0 < length buffer.old }
+    ensures told { F.told files.new ≡ F.told files.old }
+    ensures later { NoneFalls (F.faults files.old) (F.faults files.new) }
+    ensures cause { IfErr result (λ e. HasCauseIn (F.faults files.old) (F.faults files.new) 0 0 (Some (fault_seen e))) }
+    ensures served { fault_of result ≡ Some outcome.Words → ⊥ }
+    ensures gives { (named : Names) → F.told files.old ≡ Some named → Gives (λ u. []) fault_seen result (formed script_of named name.now) }
+{
+    match read_script(alloc, files, name, buffer) {
+        Ok(()) => Ok(()),
+        Err(fault) => Err(fault.at(FileName::Word(name))),
+    }
+}
+
+// The query, and the rows of its source.
+fn rows_for<F: Files>(
+    alloc: Global,
+    files: &mut F,
+    query: Query,
+    buffer: &mut [u8],
+) -> Result<Asked, Fault<'static>>
+    requires { 0 < length buffer.old }
+    ensures later { NoneFalls (F.faults files.old) (F.faults files.new) }
+    ensures cause { IfErr result (λ e. HasCauseIn (F.faults files.old) (F.faults files.new) 0 0 (Some (fault_seen e))) }
+    ensures served { fault_of result ≡ Some outcome.Words → ⊥ }
+    ensures kept { IfOk result (λ asked. asked.query ≡ query) }
+    ensures stamps { IfOk result (λ asked. StampsNeverFall 0 asked.rows.items) }
+    ensures gives { (named : Names) → F.told files.old ≡ Some named → Gives items_seen fault_seen result (rows_of_sources named (query_seen query).sources) }
+{
+    match read_rows(alloc, files, query.file.as_str(), buffer) {
+        Ok(rows) => Ok(Asked { query, rows }),
+        Err(fault) => Err(fault.at(FileName::OfSource(query.file))),
     }
 }
 

@@ -104,7 +104,7 @@ fn push_number(text: &mut Vec<u8>, number: u64) -> Result<(), Memory>
     append(text, Buffer::new().format(number).as_bytes())
 }
 
-fn push_fields(text: &mut Vec<u8>, values: &[Value]) -> Result<(), Memory>
+pub(crate) fn push_fields(text: &mut Vec<u8>, values: &[Value]) -> Result<(), Memory>
     ensures { OnOk result (text.new.items ≡ text.old.items ++ fields_of values.now) }
 {
     let mut rest = values;
@@ -117,7 +117,7 @@ fn push_fields(text: &mut Vec<u8>, values: &[Value]) -> Result<(), Memory>
 }
 
 // Writes the text once it fills a buffer.
-fn write_if_full<K: Sink>(out: &mut K, text: &mut Vec<u8>) -> Result<(), Failed>
+pub(crate) fn write_if_full<K: Sink>(out: &mut K, text: &mut Vec<u8>) -> Result<(), Failed>
     ensures ok { OnOk result (PassesOn (K.written out.old) (K.written out.new) text.old.items text.new.items) }
     ensures front { OnErr result (AppendsFront (K.written out.old) (K.written out.new) text.old.items) }
     ensures cause { HasCause (K.faults out.old) (K.faults out.new) result }

@@ -80,13 +80,20 @@ fn a_run_writes_its_results(rt: HostRuntime) -> Result<(), Fail> {
 #[test]
 fn words_that_are_not_served(rt: HostRuntime) -> Result<(), Fail> {
     let alloc = rt.alloc();
-    let lists: [&[&str]; 6] = [
+    let lists: [&[&str]; 13] = [
         &[],
         &["run", "q.txt"],
         &["run", "q.txt", "s.txt", "s.txt"],
         &["run", "q.txt", "-s"],
         &["run", "", "s.txt"],
         &["Run", "q.txt", "s.txt"],
+        &["at", "q.txt"],
+        &["at", "-q", "1"],
+        &["at", "q.txt", ""],
+        &["at", "q.txt", "-1"],
+        &["at", "q.txt", "+1"],
+        &["at", "q.txt", "1000000000000000"],
+        &["at", "q.txt", "18446744073709551617"],
     ];
     for list in lists {
         let out = MemSink::new(alloc, 100);
@@ -94,6 +101,55 @@ fn words_that_are_not_served(rt: HostRuntime) -> Result<(), Fail> {
         check(&rt, list, files(alloc, QUERY, ROWS)?, out, want)?;
     }
     Ok(())
+}
+
+#[test]
+fn an_answer_at_an_instant(rt: HostRuntime) -> Result<(), Fail> {
+    let alloc = rt.alloc();
+    for (time, want) in [
+        ("0", "7\n"),
+        ("1", "7\n8\n"),
+        ("0002", "7\n8\n"),
+        ("3", "8\n"),
+        ("4", ""),
+        ("999999999999999", ""),
+    ] {
+        let at = ["at", "q.txt", time];
+        check(
+            &rt,
+            &at,
+            files(alloc, QUERY, ROWS)?,
+            MemSink::new(alloc, 1),
+            (0, want, ""),
+        )?;
+    }
+    // By number, one line for each copy.
+    let query = "source a from \"a.csv\" (v int) window time 3\nplan filter((-100 < $0), a)\n";
+    let rows = "at,v\n0,10\n0,9\n0,-20\n1,9\n1,-100\n";
+    let at = ["at", "q.txt", "1"].as_slice();
+    let want = (0, "-20\n9\n9\n10\n", "");
+    check(
+        &rt,
+        at,
+        files(alloc, query, rows)?,
+        MemSink::new(alloc, 100),
+        want,
+    )?;
+    // What is wrong comes before what is written, and what was written is a front.
+    let mut out = MemSink::new(alloc, 2);
+    out.fail_at(2)?;
+    let want = (5, "-2", "pipes: write\n");
+    check(&rt, at, files(alloc, query, rows)?, out, want)?;
+    let want = (9, "", "pipes: unbuilt\n");
+    check(
+        &rt,
+        at,
+        files(alloc, query, "at,v\n1,x\n")?,
+        MemSink::new(alloc, 2),
+        want,
+    )?;
+    let want = (4, "", "pipes: missing \"q.txt\"\n");
+    check(&rt, at, MemFiles::new(alloc), MemSink::new(alloc, 2), want)
 }
 
 #[test]

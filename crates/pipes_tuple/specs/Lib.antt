@@ -1,4 +1,8 @@
-pub mod Equal
 pub mod Kinds
+pub mod Equal
+pub mod Order
+pub mod OrderLaws
+pub mod Columns
 pub mod Texts
+pub mod Reading
 pub mod Bag

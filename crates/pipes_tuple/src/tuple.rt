@@ -1,15 +1,38 @@
 // Tuples of values.
-ghost use Rattle.std.specs.Prelude.{◌≡◌, ◌≤◌, ◌++◌, ◌↔◌, length, IfOk, IfSome, OnOk, IsSome, slice_get, vec_len};
+ghost use Rattle.std.specs.Prelude.{◌≡◌, ℕ, ◌+◌, ◌≤◌, [], ◌++◌, ◌↔◌, length, IfOk, IfSome, IsSome, IsTrue, slice_get, vec_len};
 ghost use Rattle.std.specs.Option.{option_copied};
-ghost use Rattle.std.specs.Cmp.Lexicographic.{pointwise, lists_equiv, lists_per};
-ghost use Rattle.pipes_tuple.specs.contracts.value.ValuePartialEq.TheImpl.Laws as same;
-ghost use Rattle.pipes_tuple.specs.contracts.value.ValueEq.TheImpl.Laws as alike;
+ghost use Rattle.pipes_tuple.specs.Columns.{at_columns, missing_column, HasColumns};
+ghost use Rattle.pipes_tuple.specs.Kinds.{Fits};
 
-use crate::Value;
+use crate::value::{copy_all, copy_at};
+use crate::{Cols, Key, Schema, Value};
 use pipes_time::Memory;
+use std::cmp::Ordering;
+use std::hash::{Hash, Hasher};
 use std::marker::Model;
 
-/// A list of 1 to 32 values.
+/// Why a [`Tuple`] has no projection.
+#[derive(Clone, Copy, Debug, PartialEq, Eq)]
+pub enum ProjectFault {
+    /// This column, the first such one, is not there.
+    NoColumn(u32),
+    /// There are no columns, and a tuple is never empty.
+    Empty,
+    /// Memory was refused.
+    Memory,
+}
+
+impl From<Memory> for ProjectFault {
+    ghost use Rattle.pipes_tuple.specs.declared.tuple.ProjectFault.TheVariants as fault;
+
+    ghost from_gives = { λ _ why. why ≡ fault.Memory };
+
+    fn from(_: Memory) -> ProjectFault {
+        ProjectFault::Memory
+    }
+}
+
+/// A list of 1 to 32 values, ordered value by value, a proper prefix first.
 #[derive(Debug, Drop)]
 pub struct Tuple {
     values: Vec<Value>,
@@ -66,26 +89,82 @@ impl Tuple {
     pub fn copy(&self) -> Result<Tuple, Memory>
         ensures { IfOk result (λ tuple. tuple ≡ self.now) }
     {
-        let mut values = Vec::new(*self.values.allocator());
+        let mut values = Vec::with_capacity(*self.values.allocator(), self.values.len())?;
         copy_all(self.values.as_slice(), &mut values)?;
+        Ok(Tuple { values })
+    }
+
+    /// Whether the values have the schema's kinds, in order.
+    pub fn fits(&self, schema: &Schema) -> bool
+        ensures { IsTrue result ↔ Fits self.now schema.now }
+    {
+        let kinds = schema.as_slice();
+        if self.values.len() != kinds.len() {
+            return false;
+        }
+        for (i, value) in self.values.as_slice().iter().enumerate() {
+            if value.kind() != kinds[i] {
+                return false;
+            }
+        }
+        true
+    }
+
+    /// The tuple of the values at these columns, in their order.
+    pub fn project(&self, cols: &Cols) -> Result<Tuple, ProjectFault>
+        ensures value { IfOk result (λ tuple. tuple ≡ at_columns cols.now self.now) }
+        ensures empty { (result ≡ Err ProjectFault.Empty) ↔ (cols.now ≡ []) }
+        ensures missing { (column : ℕ) → (result ≡ Err (ProjectFault.NoColumn column))
+            ↔ (missing_column cols.now self.now ≡ Some column) }
+    {
+        let columns = cols.as_slice();
+        if columns.is_empty() {
+            return Err(ProjectFault::Empty);
+        }
+        if let Some(column) = first_missing(columns, self.values.as_slice()) {
+            return Err(ProjectFault::NoColumn(column));
+        }
+        let values = copy_at(*self.values.allocator(), columns, self.values.as_slice())?;
+        Ok(Tuple { values })
+    }
+
+    /// The key of the values at these columns, in their order.
+    pub fn key(&self, cols: &Cols) -> Result<Key, Memory>
+        requires { HasColumns cols.now self.now }
+        ensures { IfOk result (λ key. key ≡ at_columns cols.now self.now) }
+    {
+        Key::of_columns(*self.values.allocator(), cols, self.values.as_slice())
+    }
+
+    /// The tuple of this one's values and then the other's.
+    pub fn append(&self, other: &Tuple) -> Result<Tuple, Memory>
+        requires { length self.now + length other.now ≤ 32 }
+        ensures { IfOk result (λ tuple. tuple ≡ self.now ++ other.now) }
+    {
+        let mut values = Vec::with_capacity(*self.values.allocator(), self.len() + other.len())?;
+        copy_all(self.values.as_slice(), &mut values)?;
+        copy_all(other.values.as_slice(), &mut values)?;
         Ok(Tuple { values })
     }
 }
 
-// Appends copies of the values.
-fn copy_all(from: &[Value], to: &mut Vec<Value>) -> Result<(), Memory>
-    ensures { OnOk result (to.new.items ≡ to.old.items ++ from.now) }
+// The first column that is not there.
+fn first_missing(columns: &[u32], values: &[Value]) -> Option<u32>
+    ensures { result ≡ missing_column columns.now values.now }
 {
-    for value in from {
-        to.push(value.copy()?)?;
-    }
-    Ok(())
+    columns
+        .iter()
+        .copied()
+        .find(|column| values.len() <= *column as usize)
 }
 
 impl PartialEq for Tuple {
-    ghost eq = { pointwise ⟦<Value as PartialEq>⟧.eq };
+    ghost use Rattle.pipes_tuple.specs.Equal.{tuple_eq};
+    ghost use Rattle.pipes_tuple.specs.OrderLaws.{tuple_eq-partial};
 
-    ghost laws = { lists_per same.laws-law };
+    ghost eq = { tuple_eq };
+
+    ghost laws = { tuple_eq-partial };
 
     fn eq(&self, other: &Tuple) -> bool {
         self.as_slice() == other.as_slice()
@@ -93,31 +172,133 @@ impl PartialEq for Tuple {
 }
 
 impl Eq for Tuple {
-    ghost laws = { lists_equiv alike.laws-law };
+    ghost use Rattle.pipes_tuple.specs.OrderLaws.{tuple_eq-equivalence};
+
+    ghost laws = { tuple_eq-equivalence };
+}
+
+impl PartialOrd for Tuple {
+    ghost use Rattle.std.specs.Prelude.{Some};
+    ghost use Rattle.pipes_tuple.specs.Order.{tuple_cmp};
+    ghost use Rattle.pipes_tuple.specs.OrderLaws.{tuple_cmp-partial};
+
+    ghost partial_cmp = { λ x y. Some (tuple_cmp x y) };
+
+    ghost laws = { tuple_cmp-partial };
+
+    fn partial_cmp(&self, other: &Tuple) -> Option<Ordering> {
+        Some(self.cmp(other))
+    }
+}
+
+impl Ord for Tuple {
+    ghost use Rattle.std.specs.Prelude.{refl};
+    ghost use Rattle.pipes_tuple.specs.Order.{tuple_cmp};
+    ghost use Rattle.pipes_tuple.specs.OrderLaws.{tuple_cmp-total, tuple_cmp-ties};
+
+    ghost cmp = { tuple_cmp };
+
+    ghost total = { tuple_cmp-total };
+
+    ghost matches_partial_cmp = { λ x y. refl };
+
+    ghost matches_eq = { tuple_cmp-ties };
+
+    fn cmp(&self, other: &Tuple) -> Ordering {
+        self.as_slice().cmp(other.as_slice())
+    }
+}
+
+impl Hash for Tuple {
+    ghost use Rattle.std.specs.Hash as fed;
+    ghost use Rattle.std.specs.Hash.{items_Alike};
+    ghost use Rattle.pipes_tuple.specs.contracts.value.ValueHash.TheImpl.Laws as hashes;
+
+    ghost hash_input = { fed.slice ⟦<Value as Hash>⟧.hash_input };
+
+    ghost respects_eq = { (items_Alike (record { fed = hashes.respects_eq-law })).fed };
+
+    fn hash<H: Hasher>(&self, state: &mut H) {
+        self.as_slice().hash(state);
+    }
 }
 
 #[cfg(test)]
 mod tests {
     use super::*;
+    use crate::{Kind, Text};
+    use std::alloc::Global;
+    use std::collections::{BTreeMap, HashMap};
     use std::test::Fail;
 
+    fn tuple_of<const N: usize>(alloc: Global, values: [Value; N]) -> Result<Tuple, Fail> {
+        Ok(Tuple::new(Vec::from_array(alloc, values)?).ok_or("no tuple")?)
+    }
+
+    fn columns<const N: usize>(alloc: Global, columns: [u32; N]) -> Result<Cols, Fail> {
+        Ok(Cols::new(Vec::from_array(alloc, columns)?).ok_or("no columns")?)
+    }
+
     #[test]
-    fn tuples_of_numbers(rt: HostRuntime) -> Result<(), Fail> {
+    fn limits(rt: HostRuntime) -> Result<(), Fail> {
         assert!(rt; Tuple::new(Vec::new(rt.alloc())).is_none());
-        let mut values = Vec::new(rt.alloc());
-        for number in 0..33 {
-            values.push(Value::Int(number))?;
+        assert!(rt; Schema::new(Vec::new(rt.alloc())).is_none());
+        for (many, fits) in [(32, true), (33, false)] {
+            let mut values = Vec::new(rt.alloc());
+            let mut others = Vec::new(rt.alloc());
+            for number in 0..many {
+                values.push(Value::Int(number))?;
+                others.push(Value::Int(number))?;
+            }
+            assert_eq!(rt; Tuple::new(values).is_some(), fits);
+            assert_eq!(rt; Key::new(others).is_some(), fits);
+            let kinds = vec![in rt.alloc(); Kind::Flag; many as usize]?;
+            assert_eq!(rt; Schema::new(kinds).is_some(), fits);
+            let list = vec![in rt.alloc(); 7; many as usize]?;
+            assert_eq!(rt; Cols::new(list).is_some(), fits);
         }
-        assert!(rt; Tuple::new(values).is_none());
-        let mut values = Vec::new(rt.alloc());
-        values.push(Value::Int(7))?;
-        values.push(Value::Int(-8))?;
-        let tuple = Tuple::new(values).ok_or("no tuple")?;
-        assert_eq!(rt; tuple.len(), 2);
-        assert_eq!(rt; tuple.get(1), Some(&Value::Int(-8)));
-        assert!(rt; tuple.get(2).is_none());
-        let copy = tuple.copy()?;
-        assert!(rt; copy == tuple);
+        Ok(())
+    }
+
+    #[test]
+    fn parts_of_tuples(rt: HostRuntime) -> Result<(), Fail> {
+        let alloc = rt.alloc();
+        let text = Value::Text(Text::new(alloc, "a")?);
+        let tuple = tuple_of(alloc, [Value::Int(1), text, Value::Flag(true)])?;
+        assert_eq!(rt; tuple.len(), 3);
+        assert_eq!(rt; tuple.get(2), Some(&Value::Flag(true)));
+        assert!(rt; tuple.get(3).is_none());
+        let turned = tuple_of(alloc, [Value::Flag(true), Value::Int(1)])?;
+        assert!(rt; tuple.project(&columns(alloc, [2, 0])?)? == turned);
+        assert!(rt; tuple.project(&columns(alloc, [0, 3, 4])?) == Err(ProjectFault::NoColumn(3)));
+        let none = columns(alloc, [])?;
+        assert!(rt; tuple.project(&none) == Err(ProjectFault::Empty));
+        assert!(rt; tuple.key(&none)?.as_slice().is_empty());
+        assert!(rt; tuple.copy()? == tuple);
+        let one = tuple_of(alloc, [Value::Int(1)])?;
+        let two = tuple_of(alloc, [Value::Int(2)])?;
+        let both = tuple_of(alloc, [Value::Int(1), Value::Int(2)])?;
+        assert!(rt; one.len() + two.len() == both.len());
+        assert!(rt; one.append(&two)? == both);
+        assert!(rt; one < both && both < two && two < turned);
+        let kinds = vec![in alloc; Kind::Int, Kind::Text, Kind::Flag]?;
+        let schema = Schema::new(kinds).ok_or("no schema")?;
+        assert_eq!(rt; (tuple.fits(&schema), both.fits(&schema)), (true, false));
+        Ok(())
+    }
+
+    #[test]
+    fn tuples_and_keys_in_maps(rt: HostRuntime) -> Result<(), Fail> {
+        let alloc = rt.alloc();
+        let one = tuple_of(alloc, [Value::Int(1)])?;
+        let two = tuple_of(alloc, [Value::Int(2)])?;
+        let mut names = HashMap::new(alloc);
+        names.insert(one.copy()?, "one")?;
+        assert_eq!(rt; (names.get(&one), names.get(&two)), (Some(&"one"), None));
+        let empty = Key::new(Vec::new(alloc)).ok_or("no key")?;
+        let mut places = BTreeMap::new(alloc);
+        places.insert(empty.copy()?, 7)?;
+        assert_eq!(rt; places.get(&empty), Some(&7));
         Ok(())
     }
 }

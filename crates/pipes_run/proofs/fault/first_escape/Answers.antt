@@ -1,5 +1,5 @@
-use Rattle.std.proofs.Common.{◌≡◌, ◌∙◌, ◌++◌, ◌+◌, sym, get_or, take, drop, flat_map}
-use Rattle.pipes_run.specs.Outcome.{spelled}
+use Rattle.std.proofs.Common.{◌≡◌, ◌∙◌, ◌++◌, ◌+◌, sym, get_or, take, drop}
+use Rattle.pipes_tuple.specs.Texts.{escaped, escaped_byte}
 use Rattle.pipes_run.proofs.Spelling.{spelled_plain, spelled_around}
 use Rattle.pipes_run.proofs.fault.first_escape.Goals as goal
 
@@ -11,6 +11,6 @@ spelling-requires c = (spelled_around c.args.name.now c.in-Some.place c.in-Some.
 
 pub returns-in-Some-clause-cases : goal.returns-in-Some-clause-cases
 returns-in-Some-clause-cases c =
-    let parts : take c.in-Some.place c.args.name.now ++ spelled (get_or c.args.name.now c.in-Some.place 0) ++ flat_map spelled (drop (c.in-Some.place + 1) c.args.name.now) ≡ c.around.result.0.now ++ c.spelling.result.now ++ flat_map spelled c.around.result.1.now =
-    λ k. sym c.around.ensures.front k ++ sym c.spelling.ensures k ++ flat_map spelled (sym c.around.ensures.back k) in
+    let parts : take c.in-Some.place c.args.name.now ++ escaped_byte (get_or c.args.name.now c.in-Some.place 0) ++ escaped (drop (c.in-Some.place + 1) c.args.name.now) ≡ c.around.result.0.now ++ c.spelling.result.now ++ escaped c.around.result.1.now =
+    λ k. sym c.around.ensures.front k ++ sym c.spelling.ensures k ++ escaped (sym c.around.ensures.back k) in
     (spelled_around c.args.name.now c.in-Some.place c.in-Some.ensures.place).1 ∙ parts

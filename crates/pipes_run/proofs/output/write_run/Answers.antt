@@ -2,7 +2,8 @@ use Rattle.std.proofs.Common.{rules, subst, List, ℕ, take, ◌+◌}
 use Rattle.pipes_run.specs.Pieces.{AppendsFront}
 use Rattle.pipes_run.specs.Written.{result_lines}
 use Rattle.pipes_run.proofs.Appended.{on_err}
-use Rattle.pipes_run.proofs.Answering.{result_lines-more, front-passed, front-stopped, passed-grown, passed-on, passed-end, front-last}
+use Rattle.pipes_run.proofs.Answering.{result_lines-more, front-passed, front-stopped, passed-end}
+use Rattle.pipes_run.proofs.Passing.{passed-grown, passed-on, front-last}
 use Rattle.pipes_run.proofs.output.write_run.Goals as goal
 
 pub returns-in_err-push_row-clause-front : goal.returns-in_err-push_row-clause-front

@@ -1,0 +1,17 @@
+pub mod SameLists
+pub mod Comparisons
+pub mod ExprInduction
+pub mod ExprEquations
+pub mod ExprTyped
+pub mod ExprRefusal
+pub mod KindLists
+pub mod NodeOutcome
+pub mod PlanInduction
+pub mod PlanEquations
+pub mod PlanRefusal
+pub mod Sums
+pub mod DistinctRows
+pub mod MinusRows
+pub mod Keys
+pub mod PlanTyped
+pub mod AnswerFits
