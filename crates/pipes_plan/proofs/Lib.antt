@@ -15,3 +15,4 @@ pub mod MinusRows
 pub mod Keys
 pub mod PlanTyped
 pub mod AnswerFits
+pub mod SameAnswers

@@ -101,7 +101,8 @@ fn distinct(alloc: Global, rows: Vec<Tuple>) -> Result<Vec<Tuple>, Memory>
 
 // The place of the first row that is equal, if there is one.
 fn place_of(rows: &[Tuple], row: &Tuple) -> Option<usize>
-    ensures { MatchOption result (without row.now rows.now ≡ rows.now) (λ i. (i < length rows.now) × (without row.now rows.now ≡ remove rows.now i)) }
+    ensures { MatchOption result (without row.now rows.now ≡ rows.now)
+        (λ i. (i < length rows.now) × (without row.now rows.now ≡ remove rows.now i)) }
 {
     for (i, other) in rows.iter().enumerate() {
         if *other == *row {
@@ -123,8 +124,8 @@ fn minus(mut left: Vec<Tuple>, right: &[Tuple]) -> Vec<Tuple>
     left
 }
 
-/// The answer of a plan on a bag for each source, which fits the source's schema. The rows come in the order of the
-/// sources' rows.
+/// The answer of a plan on a bag for each source, which fits the source's schema. Its rows come in
+/// the order that the sources' rows give them.
 pub fn answer(
     alloc: Global,
     plan: &Plan,

@@ -36,7 +36,8 @@ fn join_row(
     out: &mut Vec<Tuple>,
 ) -> Result<(), Memory>
     requires { length left.now + length right.now ≤ 32 }
-    ensures { OnOk result (out.new.items ≡ out.old.items ++ joined_row pairs.now condition.now left.now right.now) }
+    ensures { OnOk result (out.new.items
+        ≡ out.old.items ++ joined_row pairs.now condition.now left.now right.now) }
 {
     if !pairs_equal(pairs, left, right) {
         return Ok(());
@@ -57,7 +58,8 @@ fn join_left(
     out: &mut Vec<Tuple>,
 ) -> Result<(), Memory>
     requires { All (λ right. length left.now + length right ≤ 32) rows.now }
-    ensures { OnOk result (out.new.items ≡ out.old.items ++ flat_map (joined_row pairs.now condition.now left.now) rows.now) }
+    ensures { OnOk result (out.new.items
+        ≡ out.old.items ++ flat_map (joined_row pairs.now condition.now left.now) rows.now) }
 {
     for right in rows {
         join_row(pairs, condition, left, right, out)?;

@@ -1,5 +1,5 @@
-// What the definitions say of a few values, answers and refusals. Expressions and plans are lists of their nodes,
-// children before their parent.
+// What the definitions say of a few values, answers and refusals. Expressions and plans are written as
+// lists of their nodes, children before their parent.
 ghost use Rattle.std.specs.Prelude.{◌≡◌, All, IfOk, IsTrue, map};
 ghost use Rattle.pipes_tuple.specs.Kinds.{kind_of, Fits};
 ghost use Rattle.pipes_plan.specs.Algebra.{bag_lists};
