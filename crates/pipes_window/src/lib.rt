@@ -3,6 +3,12 @@
 
 mod item;
 mod kind;
+mod ring;
+mod row;
+mod rows_at;
+mod window;
 
 pub use item::Item;
 pub use kind::WindowKind;
+pub use rows_at::RowsAt;
+pub use window::Window;
