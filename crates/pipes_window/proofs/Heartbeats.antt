@@ -148,8 +148,8 @@ before (Count n) source limits up = before_count n 0 (last_stamp source) (rows_o
 
 pub heartbeat_law : (kind : WindowKind) (source : List Item) → IsWindow kind → StampsRise source → IsHeartbeat kind source
 heartbeat_law kind source limits up = record {
-  before = before kind source limits up;
-  after = λ more rises. (
+  past = before kind source limits up;
+  ahead = λ more rises. (
     each_row whole_span kind (waiting kind source ++ rows_of more),
     ap (λ (l : List Row). each_row whole_span kind l) (rows_of-append source more) ∙ split whole_span (λ row end. refl) kind (rows_of source) (rows_of more) limits,
     starts_rows whole_span starts_whole kind (waiting_beat kind source) (waiting kind source ++ rows_of more) (ahead kind source more rises),
@@ -165,7 +165,7 @@ rest_law kind source limits up =
           ap (λ (l : List Row). each_row whole_span kind l) (sym (append-nil (rows_of source)))
           ∙ split whole_span (λ row end. refl) kind (rows_of source) [] limits
           ∙ ap (λ (l : List Row). known kind source ++ each_row whole_span kind l) last;
-      later =
+      starts =
           starts_rows whole_span starts_whole kind (waiting_beat kind source) (waiting kind source)
           (subst (λ (l : List Row). RowsFrom (waiting_beat kind source) l) last (ahead kind source [] (subst (λ (l : List Item). StampsRise l) (sym start) up)));
     }
@@ -228,7 +228,7 @@ item_law kind source item limits up =
     record {
       all = same;
       few = few_more kind (rows_of source) item limits;
-      later = starts_rows fixed_span starts_fixed kind (waiting_beat kind source) (waiting kind source ++ rows_of (item ∷ [])) (ahead kind source (item ∷ []) up);
-      earlier = All-right (StartsBy after) (known kind source) more (subst (λ (l : List Elem). All (StartsBy after) l) same (before kind (source ++ item ∷ []) limits up));
+      starts = starts_rows fixed_span starts_fixed kind (waiting_beat kind source) (waiting kind source ++ rows_of (item ∷ [])) (ahead kind source (item ∷ []) up);
+      caught_up = All-right (StartsBy after) (known kind source) more (subst (λ (l : List Elem). All (StartsBy after) l) same (before kind (source ++ item ∷ []) limits up));
       rises = beat_rises kind source item up;
     }

@@ -1,5 +1,5 @@
 -- What a window stands for after a call.
-use Rattle.std.proofs.Common.{◌≡◌, ℕ, ◌+◌, ◌-◌, ◌≤◌, ◌<◌, max, List, [], ◌∷◌, ◌++◌, length, Bool, true, false, refl, sym, ap, ◌∙◌, subst, arith, append-nil, Result, Ok, Err, is_err, OnOk}
+use Rattle.std.proofs.Common.{◌≡◌, ℕ, ◌+◌, ◌-◌, ◌≤◌, ◌<◌, max, List, [], ◌∷◌, ◌++◌, length, Bool, true, false, cond, refl, sym, ap, ◌∙◌, subst, arith, append-nil, Result, Ok, Err, is_err, OnOk}
 use Rattle.std.specs.List.{flat_map}
 use Rattle.pipes_time.specs.Interval.{horizon}
 use Rattle.pipes_stream.specs.declared.Elem.{Elem}
@@ -20,13 +20,17 @@ use Rattle.pipes_window.proofs.Heartbeats.{waiting-append, item_law, rest_law, h
 rises : (w : State) (source : List Item) (item : Item) → w.last ≤ stamp_of item → stamp_of item < horizon → HasTaken source w → StampsRise (source ++ item ∷ [])
 rises w source item order below t = let last = t.last in rises_more 0 source item t.source (omega arith) (omega arith) below
 
+-- the rows of a window that goes on
+goes_on : (w : State) (source : List Item) → w.ended ≡ false → HasTaken source w → w.rows ≡ waiting w.kind source
+goes_on w source going t = t.rows ∙ ap (λ (b : Bool). cond b [] (waiting w.kind source)) going
+
 -- a call that takes an item, keeps the rows that wait then and appends what is known by it
-pub takes : (old new : State) (item : Item) (out after : List Elem) → old.last ≤ stamp_of item → stamp_of item < horizon
+takes : (old new : State) (item : Item) (out after : List Elem) → old.ended ≡ false → old.last ≤ stamp_of item → stamp_of item < horizon
     → new.kind ≡ old.kind → new.last ≡ stamp_of item → new.ended ≡ old.ended → new.failed ≡ old.failed
     → new.rows ≡ waiting_of old.kind (old.rows ++ rows_of (item ∷ []))
     → after ≡ out ++ each_row fixed_span old.kind (old.rows ++ rows_of (item ∷ []))
     → Takes old new item out after
-takes old new item out after order below kind last ended failed rows sent = record {
+takes old new item out after going order below kind last ended failed rows sent = record {
   kind = kind;
   last = last;
   ended = ended;
@@ -35,31 +39,39 @@ takes old new item out after order below kind last ended failed rows sent = reco
     limits = subst IsWindow (sym kind) t.limits;
     source = rises old source item order below t;
     rows =
-        rows ∙ ap (λ (l : List Row). waiting_of old.kind (l ++ rows_of (item ∷ []))) t.rows ∙ sym (waiting-append old.kind source (item ∷ []))
-        ∙ ap (λ (k : WindowKind). waiting k (source ++ item ∷ [])) (sym kind);
+        rows ∙ ap (λ (l : List Row). waiting_of old.kind (l ++ rows_of (item ∷ []))) (goes_on old source going t) ∙ sym (waiting-append old.kind source (item ∷ []))
+        ∙ (λ i. cond (sym (ended ∙ going) i) [] (waiting (sym kind i) (source ++ item ∷ [])));
     last = (let e = last_stamp-append source item in let f = t.last in omega arith);
-    goes_on = failed ∙ t.goes_on;
+    unfailed = failed ∙ t.unfailed;
   };
   sent = (
     each_row fixed_span old.kind (old.rows ++ rows_of (item ∷ [])),
     sent,
     λ source t.
-        subst (λ (l : List Row). MakesKnown old.kind source item (each_row fixed_span old.kind (l ++ rows_of (item ∷ [])))) (sym t.rows)
+        subst (λ (l : List Row). MakesKnown old.kind source item (each_row fixed_span old.kind (l ++ rows_of (item ∷ [])))) (sym (goes_on old source going t))
         (item_law old.kind source item t.limits (rises old source item order below t)),
   );
 }
 
-pub finishes : (old new : State) (out after : List Elem) → new.kind ≡ old.kind → new.last ≡ old.last → new.ended ≡ true
-    → after ≡ out ++ each_row whole_span old.kind old.rows
+finishes : (old new : State) (out after : List Elem) → old.ended ≡ false → new.kind ≡ old.kind → new.last ≡ old.last → new.ended ≡ true → new.failed ≡ old.failed
+    → new.rows ≡ [] → after ≡ out ++ each_row whole_span old.kind old.rows
     → Finishes old new out after
-finishes old new out after kind last ended sent = record {
+finishes old new out after going kind last ended failed rows sent = record {
   kind = kind;
   last = last;
   ended = ended;
+  failed = failed;
+  taken = λ source t. record {
+    limits = subst IsWindow (sym kind) t.limits;
+    source = t.source;
+    rows = rows ∙ ap (λ (b : Bool). cond b [] (waiting new.kind source)) (sym ended);
+    last = last ∙ t.last;
+    unfailed = failed ∙ t.unfailed;
+  };
   sent = (
     each_row whole_span old.kind old.rows,
     sent,
-    λ source t. subst (λ (l : List Row). MakesRest old.kind source (each_row whole_span old.kind l)) (sym t.rows) (rest_law old.kind source t.limits t.source),
+    λ source t. subst (λ (l : List Row). MakesRest old.kind source (each_row whole_span old.kind l)) (sym (goes_on old source going t)) (rest_law old.kind source t.limits t.source),
   );
 }
 
@@ -83,21 +95,21 @@ known_few (Count n) rows limits h = known_of-few n rows limits.0 h
 
 -- the same for the fields of a window
 pub takes_inside : (kind : WindowKind) (rows left : List Row) (last : ℕ) (ended failed : Bool) (old : State) (item : Item) (out after : List Elem)
-    → record { kind = kind; rows = rows; last = last; ended = ended; failed = failed } ≡ old → old.last ≤ stamp_of item → stamp_of item < horizon
+    → record { kind = kind; rows = rows; last = last; ended = ended; failed = failed } ≡ old → old.ended ≡ false → old.last ≤ stamp_of item → stamp_of item < horizon
     → left ≡ waiting_of kind (rows ++ rows_of (item ∷ [])) → after ≡ out ++ each_row fixed_span kind (rows ++ rows_of (item ∷ []))
     → Takes old (record { kind = kind; rows = left; last = stamp_of item; ended = ended; failed = failed }) item out after
-takes_inside kind rows left last ended failed old item out after e order below waits sent =
-    takes old (record { kind = kind; rows = left; last = stamp_of item; ended = ended; failed = failed }) item out after order below
+takes_inside kind rows left last ended failed old item out after e going order below waits sent =
+    takes old (record { kind = kind; rows = left; last = stamp_of item; ended = ended; failed = failed }) item out after going order below
     (ap (λ (w : State). w.kind) e) refl (ap (λ (w : State). w.ended) e) (ap (λ (w : State). w.failed) e)
     (waits ∙ ap (λ (w : State). waiting_of w.kind (w.rows ++ rows_of (item ∷ []))) e)
     (sent ∙ ap (λ (w : State). out ++ each_row fixed_span w.kind (w.rows ++ rows_of (item ∷ []))) e)
 
 -- a heartbeat: the rows stay
 pub takes_beat : (kind : WindowKind) (rows : List Row) (last stamp : ℕ) (ended failed : Bool) (old : State)
-    → record { kind = kind; rows = rows; last = last; ended = ended; failed = failed } ≡ old → old.last ≤ stamp → stamp < horizon → IsWindow kind → length rows ≤ most_rows kind
+    → record { kind = kind; rows = rows; last = last; ended = ended; failed = failed } ≡ old → old.ended ≡ false → old.last ≤ stamp → stamp < horizon → IsWindow kind → length rows ≤ most_rows kind
     → Takes old (record { kind = kind; rows = rows; last = stamp; ended = ended; failed = failed }) (items.Beat stamp) [] []
-takes_beat kind rows last stamp ended failed old e order below limits few =
-    takes_inside kind rows rows last ended failed old (items.Beat stamp) [] [] e order below
+takes_beat kind rows last stamp ended failed old e going order below limits few =
+    takes_inside kind rows rows last ended failed old (items.Beat stamp) [] [] e going order below
     (sym (waiting_few kind rows few) ∙ ap (waiting_of kind) (sym (append-nil rows)))
     (sym (known_few kind rows limits few) ∙ ap (each_row fixed_span kind) (sym (append-nil rows)))
 
@@ -114,11 +126,12 @@ whole_few (Time size) (row ∷ rest) h = absurd (omega arith)
 whole_few (Count n) rows h = whole_of-few n rows h
 
 pub finishes_inside : (kind : WindowKind) (rows left : List Row) (last : ℕ) (ended failed : Bool) (old : State) (out after : List Elem)
-    → record { kind = kind; rows = rows; last = last; ended = ended; failed = failed } ≡ old → length rows ≤ most_rows kind
-    → after ≡ out ++ flat_map (λ row. span_up_to row horizon) rows
+    → record { kind = kind; rows = rows; last = last; ended = ended; failed = failed } ≡ old → old.ended ≡ false → length rows ≤ most_rows kind
+    → left ≡ [] → after ≡ out ++ flat_map (λ row. span_up_to row horizon) rows
     → Finishes old (record { kind = kind; rows = left; last = last; ended = true; failed = failed }) out after
-finishes_inside kind rows left last ended failed old out after e few sent =
-    finishes old (record { kind = kind; rows = left; last = last; ended = true; failed = failed }) out after (ap (λ (w : State). w.kind) e) (ap (λ (w : State). w.last) e) refl
+finishes_inside kind rows left last ended failed old out after e going few none_left sent =
+    finishes old (record { kind = kind; rows = left; last = last; ended = true; failed = failed }) out after going (ap (λ (w : State). w.kind) e) (ap (λ (w : State). w.last) e) refl
+    (ap (λ (w : State). w.failed) e) none_left
     (sent ∙ ap (λ (l : List Elem). out ++ l) (sym (whole_few kind rows few)) ∙ ap (λ (w : State). out ++ each_row whole_span w.kind w.rows) e)
 
 -- what holds of success holds where there is no failure

@@ -22,21 +22,21 @@ pub record SpansAreRows (kind : WindowKind) (items : List Item) : Type 0 where
   pub rows : (t : ℕ) → t < horizon → snapshot (spans kind items) t ≡ in_window kind items t
   pub bags : (t : ℕ) → t < horizon → SameBag (snapshot (spans kind items) t) (in_window kind items t)
 
--- the heartbeat of a window that goes on: no start that is known lies above it, and none that is yet to be known lies below it
+-- the heartbeat of a window that goes on: no known start lies above it and, whatever follows, no later start lies below it
 pub record IsHeartbeat (kind : WindowKind) (items : List Item) : Type 0 where
-  pub before : All (λ e. e.span.start ≤ window_beat kind items false) (known kind items)
-  pub after : (more : List Item) → StampsRise (items ++ more)
+  pub past : All (λ e. e.span.start ≤ window_beat kind items false) (known kind items)
+  pub ahead : (more : List Item) → StampsRise (items ++ more)
       → (rest : List Elem) × (spans kind (items ++ more) ≡ known kind items ++ rest) × StartsFrom (window_beat kind items false) rest
 
--- what becomes known by one more item: at most one element, which starts between the heartbeats before and after the item
+-- what one more item makes known: at most one element, whose start lies between the heartbeats before and after the item
 pub record MakesKnown (kind : WindowKind) (items : List Item) (item : Item) (more : List Elem) : Type 0 where
   pub all : known kind (items ++ item ∷ []) ≡ known kind items ++ more
   pub few : length more ≤ 1
-  pub later : StartsFrom (window_beat kind items false) more
-  pub earlier : All (λ e. e.span.start ≤ window_beat kind (items ++ item ∷ []) false) more
+  pub starts : StartsFrom (window_beat kind items false) more
+  pub caught_up : All (λ e. e.span.start ≤ window_beat kind (items ++ item ∷ []) false) more
   pub rises : window_beat kind items false ≤ window_beat kind (items ++ item ∷ []) false
 
--- what is left when the source ends: the rest of the spans, which starts at the heartbeat or above it
+-- what is left when the source ends: the rest of the spans, from the heartbeat on
 pub record MakesRest (kind : WindowKind) (items : List Item) (more : List Elem) : Type 0 where
   pub all : spans kind items ≡ known kind items ++ more
-  pub later : StartsFrom (window_beat kind items false) more
+  pub starts : StartsFrom (window_beat kind items false) more

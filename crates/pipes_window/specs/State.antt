@@ -1,5 +1,5 @@
 -- Windows at work: what one holds, which items it has taken, and what a call does.
-use Rattle.std.specs.Prelude.{◌≡◌, ℕ, List, [], ◌∷◌, ◌++◌, Bool, false, true}
+use Rattle.std.specs.Prelude.{◌≡◌, ℕ, List, [], ◌∷◌, ◌++◌, Bool, false, true, if◌then◌else◌}
 use Rattle.pipes_stream.specs.declared.Elem.{Elem}
 use Rattle.pipes_window.specs.declared.item.Item.{Item}
 use Rattle.pipes_window.specs.declared.kind.WindowKind.{WindowKind}
@@ -19,13 +19,13 @@ pub record State : Type 0 where
 abbrev pub new_state : WindowKind → State
 new_state kind = record { kind = kind; rows = []; last = 0; ended = false; failed = false }
 
--- it has taken these items, and no memory was refused to it
+-- it has taken these items, and memory was never refused to it; of the rows it holds those that wait, and none once it has ended
 pub record HasTaken (items : List Item) (window : State) : Type 0 where
   pub limits : IsWindow window.kind
   pub source : StampsRise items
-  pub rows : window.rows ≡ waiting window.kind items
+  pub rows : window.rows ≡ (if window.ended then [] else waiting window.kind items)
   pub last : window.last ≡ last_stamp items
-  pub goes_on : window.failed ≡ false
+  pub unfailed : window.failed ≡ false
 
 -- It took one more item, and appended what the item makes known.
 pub record Takes (old new : State) (item : Item) (before after : List Elem) : Type 0 where
@@ -41,6 +41,8 @@ pub record Finishes (old new : State) (before after : List Elem) : Type 0 where
   pub kind : new.kind ≡ old.kind
   pub last : new.last ≡ old.last
   pub ended : new.ended ≡ true
+  pub failed : new.failed ≡ old.failed
+  pub taken : (items : List Item) → HasTaken items old → HasTaken items new
   pub sent : (more : List Elem) × (after ≡ before ++ more) × ((items : List Item) → HasTaken items old → MakesRest old.kind items more)
 
 -- Memory was refused to it: nothing was appended, and it goes on no more.
