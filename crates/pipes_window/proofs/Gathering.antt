@@ -1,5 +1,5 @@
 -- The rows that are valid at an instant, one row further.
-use Rattle.std.proofs.Common.{◌≡◌, ℕ, ◌+◌, ◌≤◌, ◌<◌, List, [], ◌∷◌, ◌++◌, length, map, filter, Bool, true, false, cond, nat_le, nat_lt, ◌&&◌, refl, sym, ap, ◌∙◌, subst, append-nil, drop, ◌-◌}
+use Rattle.std.proofs.Common.{◌≡◌, ℕ, List, [], ◌∷◌, ◌++◌, length, map, filter, Bool, true, false, cond, refl, sym, ap, ◌∙◌, subst, append-nil, drop, ◌-◌}
 use Rattle.std.proofs.lemmas.List.{drop-map, length-map, map-append}
 use Rattle.std.proofs.lemmas.List.Elements.{filter-append}
 use Rattle.pipes_tuple.specs.declared.value.Value.{Value}
@@ -8,9 +8,9 @@ use Rattle.pipes_window.specs.declared.item.Item.TheVariants as items
 use Rattle.pipes_window.specs.declared.kind.WindowKind.{WindowKind}
 use Rattle.pipes_window.specs.declared.kind.WindowKind.TheVariants.{Time, Count}
 use Rattle.pipes_window.specs.declared.row.Row.{Row}
-use Rattle.pipes_window.specs.Items.{rows_of, last_of}
+use Rattle.pipes_window.specs.Items.{rows_of}
 use Rattle.pipes_window.specs.Windows.{valid_rows, in_window}
-use Rattle.pipes_window.specs.Valid.{Gathered, Gathers, HasValid, reaches, newest}
+use Rattle.pipes_window.specs.Valid.{Gathered, Gathers, reaches, newest}
 use Rattle.pipes_window.proofs.Lists.{last_of-append}
 use Rattle.pipes_window.proofs.Rising.{rows_of-append}
 

@@ -1,5 +1,5 @@
 -- The order of the elements, and the heartbeat between those that are known and those that are not.
-use Rattle.std.proofs.Common.{◌≡◌, ℕ, suc, ◌+◌, ◌-◌, ◌≤◌, ◌<◌, min, max, List, [], ◌∷◌, ◌++◌, length, Bool, true, false, cond, nat_lt, Option, Some, None, refl, sym, ap, ◌∙◌, subst, arith, append-nil, length-append, length-drop, drop_at, slice_get, unwrap_or}
+use Rattle.std.proofs.Common.{◌≡◌, ℕ, suc, ◌-◌, ◌≤◌, ◌<◌, max, List, [], ◌∷◌, ◌++◌, length, Bool, true, false, cond, nat_lt, Option, Some, None, refl, sym, ap, ◌∙◌, subst, arith, append-nil, length-append, length-drop, drop_at, slice_get, unwrap_or}
 use Rattle.std.specs.List.{All}
 use Rattle.std.specs.Option.{option_map, option_map_or}
 use Rattle.std.proofs.lemmas.Bool.Decides.{nat_tests}
@@ -11,11 +11,11 @@ use Rattle.pipes_window.specs.declared.item.Item.TheVariants as items
 use Rattle.pipes_window.specs.declared.kind.WindowKind.{WindowKind}
 use Rattle.pipes_window.specs.declared.kind.WindowKind.TheVariants.{Time, Count}
 use Rattle.pipes_window.specs.declared.row.Row.{Row}
-use Rattle.pipes_window.specs.Items.{rows_of, stamp_of, last_stamp, RisesFrom, StampsRise, last_of}
-use Rattle.pipes_window.specs.Windows.{IsWindow, end_of, span_up_to, whole_span, fixed_span, each_row, spans, known, waiting_of, waiting, waiting_beat}
+use Rattle.pipes_window.specs.Items.{rows_of, last_stamp, RisesFrom, StampsRise, last_of}
+use Rattle.pipes_window.specs.Windows.{IsWindow, end_of, span_up_to, whole_span, fixed_span, each_row, known, waiting_of, waiting, waiting_beat}
 use Rattle.pipes_window.specs.Laws.{StartsFrom, SpansAreRows, IsHeartbeat, MakesKnown, MakesRest}
-use Rattle.pipes_window.proofs.Lists.{slice_get-past, slice_get-some, last_of-few, last_of-many, last_of-append}
-use Rattle.pipes_window.proofs.Rising.{RowsFrom, RowsUpTo, rows_lower, rows_rise, rows_of-append, last_stamp-append, rows_up_to, rises_after, rows_drop, waiting_rise, waiting_up_to, slice_get-below}
+use Rattle.pipes_window.proofs.Lists.{last_of-many, last_of-append}
+use Rattle.pipes_window.proofs.Rising.{RowsFrom, RowsUpTo, rows_rise, rows_of-append, last_stamp-append, rows_up_to, rises_after, waiting_rise, waiting_up_to, slice_get-below}
 use Rattle.pipes_window.proofs.Splits.{Reach, within, past, reach, known_of-few, split}
 use Rattle.pipes_window.proofs.Snapshots.{spans_are_rows, same_bag}
 

@@ -1,16 +1,12 @@
 -- The element that a row makes known, as the code finds it.
 use Rattle.std.proofs.Common.{◌≡◌, ℕ, suc, ◌+◌, ◌-◌, ◌≤◌, ◌<◌, min, List, [], ◌∷◌, ◌++◌, length, Bool, true, false, cond, nat_lt, Option, Some, None, refl, sym, ap, ◌∙◌, subst, arith, append-nil, length-append, length-drop, slice_get, IsSome, IfSome, ◌↔◌}
-use Rattle.std.specs.Option.{option_map, option_to_list}
-use Rattle.std.specs.List.{flat_map}
 use Rattle.std.proofs.lemmas.Bool.Decides.{nat_tests}
 use Rattle.pipes_time.specs.Interval.{Span, IsInterval, horizon}
-use Rattle.pipes_stream.specs.declared.Elem.{Elem}
 use Rattle.pipes_window.specs.declared.kind.WindowKind.{WindowKind}
 use Rattle.pipes_window.specs.declared.kind.WindowKind.TheVariants.{Time, Count}
 use Rattle.pipes_window.specs.declared.row.Row.{Row}
 use Rattle.pipes_window.specs.Items.{last_of}
-use Rattle.pipes_window.specs.Windows.{IsWindow, elem_of, span_up_to, whole_span, fixed_span, each_row, most_rows, waiting_of}
-use Rattle.pipes_window.proofs.Lists.{slice_get-past, last_of-few}
+use Rattle.pipes_window.specs.Windows.{IsWindow, elem_of, span_up_to, fixed_span, each_row, most_rows}
 use Rattle.pipes_window.proofs.Splits.{known_of-few}
 
 -- the interval that is tried is the row's validity

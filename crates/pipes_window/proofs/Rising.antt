@@ -1,5 +1,5 @@
 -- Stamps that never fall.
-use Rattle.std.proofs.Common.{◌≡◌, ℕ, zero, suc, ◌+◌, ◌-◌, ◌≤◌, ◌<◌, max, List, [], ◌∷◌, ◌++◌, length, drop, Option, Some, None, refl, sym, ap, ◌∙◌, subst, arith, slice_get}
+use Rattle.std.proofs.Common.{◌≡◌, ℕ, zero, suc, ◌-◌, ◌≤◌, ◌<◌, max, List, [], ◌∷◌, ◌++◌, length, drop, Some, refl, sym, ap, subst, arith, slice_get}
 use Rattle.std.specs.Prelude.{⊤}
 use Rattle.pipes_time.specs.Interval.{horizon}
 use Rattle.pipes_window.specs.declared.item.Item.{Item}
@@ -7,7 +7,7 @@ use Rattle.pipes_window.specs.declared.item.Item.TheVariants as items
 use Rattle.pipes_window.specs.declared.kind.WindowKind.{WindowKind}
 use Rattle.pipes_window.specs.declared.kind.WindowKind.TheVariants.{Time, Count}
 use Rattle.pipes_window.specs.declared.row.Row.{Row}
-use Rattle.pipes_window.specs.Items.{rows_of, stamp_of, last_stamp, RisesFrom, StampsRise, last_of}
+use Rattle.pipes_window.specs.Items.{rows_of, stamp_of, last_stamp, RisesFrom}
 use Rattle.pipes_window.specs.Windows.{waiting_of}
 
 -- the same of rows alone

@@ -1,6 +1,6 @@
 -- The elements that hold an instant are the rows that are valid then.
-use Rattle.std.proofs.Common.{◌≡◌, ℕ, zero, suc, ◌+◌, ◌-◌, ◌≤◌, ◌<◌, min, List, [], ◌∷◌, ◌++◌, length, map, Bool, true, false, cond, nat_le, nat_lt, ◌&&◌, Option, Some, None, refl, sym, ap, ◌∙◌, subst, arith, slice_get, filter, unwrap_or}
-use Rattle.std.specs.Option.{option_map, option_map_or}
+use Rattle.std.proofs.Common.{◌≡◌, ℕ, zero, suc, ◌+◌, ◌-◌, ◌≤◌, ◌<◌, min, List, [], ◌∷◌, ◌++◌, length, map, Bool, true, false, cond, nat_le, nat_lt, ◌&&◌, Option, refl, sym, ap, ◌∙◌, arith, slice_get, filter, unwrap_or}
+use Rattle.std.specs.Option.{option_map}
 use Rattle.std.proofs.lemmas.Bool.{lt-ltb}
 use Rattle.std.proofs.lemmas.Bool.Decides.{nat_tests}
 use Rattle.pipes_time.specs.Interval.{horizon}
@@ -13,7 +13,7 @@ use Rattle.pipes_window.specs.declared.kind.WindowKind.{WindowKind}
 use Rattle.pipes_window.specs.declared.kind.WindowKind.TheVariants.{Time, Count}
 use Rattle.pipes_window.specs.declared.row.Row.{Row}
 use Rattle.pipes_window.specs.Items.{rows_of, StampsRise, last_of}
-use Rattle.pipes_window.specs.Windows.{IsWindow, valid_rows, in_window, end_of, span_up_to, whole_span, each_row, spans}
+use Rattle.pipes_window.specs.Windows.{IsWindow, valid_rows, in_window, span_up_to, whole_span, each_row, spans}
 use Rattle.pipes_window.proofs.Lists.{last_of-few, last_of-cons}
 use Rattle.pipes_window.proofs.Rising.{RowsFrom, rows_rise}
 

@@ -1,5 +1,5 @@
 -- What a window stands for after a call.
-use Rattle.std.proofs.Common.{◌≡◌, ℕ, ◌+◌, ◌-◌, ◌≤◌, ◌<◌, max, List, [], ◌∷◌, ◌++◌, length, Bool, true, false, cond, refl, sym, ap, ◌∙◌, subst, arith, append-nil, Result, Ok, Err, is_err, OnOk}
+use Rattle.std.proofs.Common.{◌≡◌, ℕ, ◌-◌, ◌≤◌, ◌<◌, List, [], ◌∷◌, ◌++◌, length, Bool, true, false, cond, refl, sym, ap, ◌∙◌, subst, arith, append-nil, Result, Ok, Err, is_err, OnOk}
 use Rattle.std.specs.List.{flat_map}
 use Rattle.pipes_time.specs.Interval.{horizon}
 use Rattle.pipes_stream.specs.declared.Elem.{Elem}
@@ -8,8 +8,8 @@ use Rattle.pipes_window.specs.declared.item.Item.TheVariants as items
 use Rattle.pipes_window.specs.declared.kind.WindowKind.{WindowKind}
 use Rattle.pipes_window.specs.declared.kind.WindowKind.TheVariants.{Time, Count}
 use Rattle.pipes_window.specs.declared.row.Row.{Row}
-use Rattle.pipes_window.specs.Items.{rows_of, stamp_of, last_stamp, StampsRise}
-use Rattle.pipes_window.specs.Windows.{IsWindow, whole_span, fixed_span, each_row, span_up_to, known, waiting_of, waiting, most_rows}
+use Rattle.pipes_window.specs.Items.{rows_of, stamp_of, StampsRise}
+use Rattle.pipes_window.specs.Windows.{IsWindow, whole_span, fixed_span, each_row, span_up_to, waiting_of, waiting, most_rows}
 use Rattle.pipes_window.specs.Laws.{SpansAreRows, IsHeartbeat, MakesKnown, MakesRest}
 use Rattle.pipes_window.specs.State.{State, HasTaken, Takes, Finishes}
 use Rattle.pipes_window.proofs.Lists.{last_of-few, slice_get-past}

@@ -1,4 +1,3 @@
-use Rattle.std.proofs.Common.{refl}
 use Rattle.pipes_window.proofs.Taking.{takes_beat}
 use Rattle.pipes_window.proofs.window.Window.beat.Goals as goal
 
