@@ -150,3 +150,8 @@ snapshot-filter p (elem ∷ rest) t = outer (p elem.tuple) ∙ by (p elem.tuple)
     by true false e same = same
     by false true e same = rw e same
     by false false e same = same
+
+-- so the elements that are kept by their tuples hold, at each instant, the valid rows that are kept
+pub filtered_spans_are_rows : (p : List Value → Bool) (kind : WindowKind) (items : List Item) (t : ℕ) → IsWindow kind → StampsRise items → t < horizon
+    → snapshot (filter (λ e. p e.tuple) (spans kind items)) t ≡ filter p (in_window kind items t)
+filtered_spans_are_rows p kind items t limits up below = snapshot-filter p (spans kind items) t ∙ ap (filter p) (spans_are_rows kind items t limits up below)

@@ -26,6 +26,11 @@ fn are(elems: &[Elem], wanted: &[(i64, u64, u64)]) -> bool {
         })
 }
 
+// A window may go to another thread.
+fn may_move<T: Send>(_: &T) -> bool {
+    true
+}
+
 #[test]
 fn sizes(rt: HostRuntime) -> Result<(), Fail> {
     for (kind, fits) in [
@@ -48,6 +53,7 @@ fn sizes(rt: HostRuntime) -> Result<(), Fail> {
 fn a_count_window_step_by_step(rt: HostRuntime) -> Result<(), Fail> {
     let alloc = rt.alloc();
     let mut window = Window::new(alloc, WindowKind::Count(2)).ok_or("no window")?;
+    assert!(rt; may_move(&window));
     let mut out = Vec::new(alloc);
     window.take(1, tuple(alloc, 8)?, &mut out)?;
     window.take(1, tuple(alloc, 7)?, &mut out)?;
