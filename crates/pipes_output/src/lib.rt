@@ -1,0 +1,14 @@
+//! What a run writes: entries, each with its one line, and the normal text of results.
+#![tactic(auto)]
+
+mod entries;
+mod entry;
+mod fault;
+mod normal;
+mod period;
+
+pub use entries::Entries;
+pub use entry::{Entry, RefusedWhy};
+pub use fault::EntryFault;
+pub use normal::Normal;
+pub use period::Period;
