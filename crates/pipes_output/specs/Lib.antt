@@ -1,3 +1,6 @@
 pub mod Lines
 pub mod Periods
 pub mod NormalText
+pub mod Changes
+pub mod Cuts
+pub mod Sweeps

@@ -1,5 +1,5 @@
 -- The lines of what a run writes.
-use Rattle.std.specs.Prelude.{◌≡◌, ◌≤◌, ◌<◌, ◌^◌, ℕ, List, ◌++◌, codes, flat_map, length}
+use Rattle.std.specs.Prelude.{◌≡◌, ◌≤◌, ◌<◌, ◌^◌, ℕ, List, [], ◌∷◌, ◌++◌, codes, flat_map, length}
 use Rattle.std.specs.Fmt.{decimal}
 use Rattle.std.specs.List.{All}
 use Rattle.std.specs.Prelude.{FitsSigned, IsUtf8}
@@ -14,28 +14,28 @@ use Rattle.pipes_output.specs.declared.entry.Entry.TheVariants.{Result, Beat, Ac
 use Rattle.pipes_output.specs.declared.entry.RefusedWhy.{RefusedWhy}
 use Rattle.pipes_output.specs.declared.entry.RefusedWhy.TheVariants.{NotDerived, Busy, Limit}
 
--- a number after a space
-abbrev pub number_field : ℕ → List ℕ
-number_field n = codes " " ++ decimal n
+-- each number in decimal, after a space
+abbrev pub numbers : List ℕ → List ℕ
+numbers ns = flat_map (λ n. codes " " ++ decimal n) ns
 
 -- each value's text, after a space
 abbrev pub fields_of : List Value → List ℕ
 fields_of tuple = flat_map (λ v. codes " " ++ texts.text_of v) tuple
 
 abbrev pub why_field : RefusedWhy → List ℕ
-why_field (NotDerived step) = codes " steps" ++ number_field step
-why_field (Busy split) = codes " busy" ++ number_field split
+why_field (NotDerived step) = codes " steps" ++ numbers (step ∷ [])
+why_field (Busy split) = codes " busy" ++ numbers (split ∷ [])
 why_field Limit = codes " limit"
 
 -- an entry's one text
 abbrev pub text_of : Entry → List ℕ
-text_of (Result e) = codes "+" ++ number_field e.span.start ++ number_field e.span.end ++ fields_of e.tuple
-text_of (Beat beat) = codes "~" ++ number_field beat
-text_of (Accepted number split) = codes "m" ++ number_field number ++ number_field split
-text_of (Refused command why) = codes "x" ++ number_field command ++ why_field why
-text_of (Idle number) = codes "o" ++ number_field number
-text_of (Over number) = codes "z" ++ number_field number
-text_of (Drained inputs output) = codes "d" ++ number_field inputs ++ number_field output
+text_of (Result e) = codes "+" ++ numbers (e.span.start ∷ e.span.end ∷ []) ++ fields_of e.tuple
+text_of (Beat beat) = codes "~" ++ numbers (beat ∷ [])
+text_of (Accepted number split) = codes "m" ++ numbers (number ∷ split ∷ [])
+text_of (Refused command why) = codes "x" ++ numbers (command ∷ []) ++ why_field why
+text_of (Idle number) = codes "o" ++ numbers (number ∷ [])
+text_of (Over number) = codes "z" ++ numbers (number ∷ [])
+text_of (Drained inputs output) = codes "d" ++ numbers (inputs ∷ output ∷ [])
 text_of Ended = codes "end"
 text_of Stopped = codes "stop"
 

@@ -1,8 +1,9 @@
 // Entries, printed and read.
-ghost use Rattle.std.specs.Prelude.{◌≡◌, ◌++◌, OnOk, OnErr, IfOk};
-ghost use Rattle.pipes_output.specs.Lines.{line, text_of, IsEntry, IsNoEntry};
+ghost use Rattle.std.specs.Prelude.{◌≡◌, ◌++◌, take, vec_len, OnOk, OnErr, IfOk};
+ghost use Rattle.pipes_output.specs.Lines.{line, text_of, numbers, IsEntry, IsNoEntry};
 
 use crate::EntryFault;
+use crate::write::{all_or_nothing, push_fields, push_numbers};
 use pipes_stream::Elem;
 use pipes_time::Memory;
 use std::alloc::Global;
@@ -63,8 +64,9 @@ impl Entry {
         ensures ok { OnOk result (out.new.items ≡ out.old.items ++ line self.now) }
         ensures err { OnErr result (out.new.items ≡ out.old.items) }
     {
-        let _ = out;
-        Err(Memory)
+        let before = out.len();
+        let tried = push_line(self, out);
+        all_or_nothing(tried, before, out)
     }
 
     /// The entry whose line this is, without its line feed.
@@ -78,5 +80,62 @@ impl Entry {
         let _ = alloc;
         let _ = line;
         Err(EntryFault::Memory)
+    }
+}
+
+// Appends the entry's line.
+fn push_line(entry: &Entry, out: &mut Vec<u8>) -> Result<(), Memory>
+    ensures ok { OnOk result (out.new.items ≡ out.old.items ++ line entry.now) }
+    ensures err { OnErr result (take (vec_len out.old) out.new.items ≡ out.old.items) }
+{
+    push_text(entry, out)?;
+    out.push(b'\n')?;
+    Ok(())
+}
+
+// Appends the entry's text.
+fn push_text(entry: &Entry, out: &mut Vec<u8>) -> Result<(), Memory>
+    ensures ok { OnOk result (out.new.items ≡ out.old.items ++ text_of entry.now) }
+    ensures err { OnErr result (take (vec_len out.old) out.new.items ≡ out.old.items) }
+{
+    match entry {
+        Entry::Result(elem) => push_result(elem, out),
+        Entry::Beat(beat) => push_tagged(b"~", &[*beat], out),
+        Entry::Accepted { number, split } => push_tagged(b"m", &[u64::from(*number), *split], out),
+        Entry::Refused { command, why } => push_refused(*command, *why, out),
+        Entry::Idle(number) => push_tagged(b"o", &[u64::from(*number)], out),
+        Entry::Over(number) => push_tagged(b"z", &[u64::from(*number)], out),
+        Entry::Drained { inputs, output } => push_tagged(b"d", &[*inputs, *output], out),
+        Entry::Ended => push_tagged(b"end", &[], out),
+        Entry::Stopped => push_tagged(b"stop", &[], out),
+    }
+}
+
+// Appends the word, and each number after a space.
+fn push_tagged(word: &[u8], list: &[u64], out: &mut Vec<u8>) -> Result<(), Memory>
+    ensures ok { OnOk result (out.new.items ≡ out.old.items ++ word.now ++ numbers list.now) }
+    ensures err { OnErr result (take (vec_len out.old) out.new.items ≡ out.old.items) }
+{
+    out.extend_from_slice(word)?;
+    push_numbers(list, out)
+}
+
+fn push_result(elem: &Elem, out: &mut Vec<u8>) -> Result<(), Memory>
+    ensures ok { OnOk result (out.new.items ≡ out.old.items ++ text_of (Entry.Result elem.now)) }
+    ensures err { OnErr result (take (vec_len out.old) out.new.items ≡ out.old.items) }
+{
+    push_tagged(b"+", &[elem.span.start(), elem.span.end()], out)?;
+    push_fields(elem.tuple.as_slice(), out)
+}
+
+fn push_refused(command: u32, why: RefusedWhy, out: &mut Vec<u8>) -> Result<(), Memory>
+    ensures ok { OnOk result (out.new.items ≡ out.old.items ++ text_of (Entry.Refused command why)) }
+    ensures err { OnErr result (take (vec_len out.old) out.new.items ≡ out.old.items) }
+{
+    push_tagged(b"x", &[u64::from(command)], out)?;
+    match why {
+        RefusedWhy::NotDerived(step) => push_tagged(b" steps", &[u64::from(step)], out),
+        RefusedWhy::Busy(split) => push_tagged(b" busy", &[split], out),
+        RefusedWhy::Limit => push_tagged(b" limit", &[], out),
     }
 }

@@ -1,11 +1,14 @@
 //! What a run writes: entries, each with its one line, and the normal text of results.
 #![tactic(auto)]
 
+mod change;
 mod entries;
 mod entry;
 mod fault;
 mod normal;
 mod period;
+mod sweep;
+mod write;
 
 pub use entries::Entries;
 pub use entry::{Entry, RefusedWhy};

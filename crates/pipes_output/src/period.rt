@@ -1,7 +1,8 @@
 // Periods, in which a tuple has one number of copies.
-ghost use Rattle.std.specs.Prelude.{◌≡◌, ◌++◌, OnOk, OnErr};
+ghost use Rattle.std.specs.Prelude.{◌≡◌, ◌++◌, take, vec_len, OnOk, OnErr};
 ghost use Rattle.pipes_output.specs.NormalText.{period_line};
 
+use crate::write::{all_or_nothing, push_fields, push_numbers};
 use pipes_time::Memory;
 use pipes_tuple::Tuple;
 use std::marker::Model;
@@ -24,12 +25,37 @@ impl<'a> Model for Period<'a> {
 }
 
 impl<'a> Period<'a> {
+    // The period of the tuple from `start` on and before `end`.
+    pub(crate) fn new(start: u64, end: u64, copies: u64, tuple: &'a Tuple) -> Period<'a>
+        ensures { result ≡ record { start = start; end = end; copies = copies; tuple = tuple.now } }
+    {
+        Period {
+            start,
+            end,
+            copies,
+            tuple,
+        }
+    }
+
     /// Appends the period's line, with its line feed.
     pub fn print(&self, out: &mut Vec<u8>) -> Result<(), Memory>
         ensures ok { OnOk result (out.new.items ≡ out.old.items ++ period_line self.now) }
         ensures err { OnErr result (out.new.items ≡ out.old.items) }
     {
-        let _ = out;
-        Err(Memory)
+        let before = out.len();
+        let tried = push_line(self, out);
+        all_or_nothing(tried, before, out)
     }
+}
+
+// Appends the period's line.
+fn push_line(period: &Period, out: &mut Vec<u8>) -> Result<(), Memory>
+    ensures ok { OnOk result (out.new.items ≡ out.old.items ++ period_line period.now) }
+    ensures err { OnErr result (take (vec_len out.old) out.new.items ≡ out.old.items) }
+{
+    out.push(b'=')?;
+    push_numbers(&[period.start, period.end, period.copies], out)?;
+    push_fields(period.tuple.as_slice(), out)?;
+    out.push(b'\n')?;
+    Ok(())
 }
