@@ -3,3 +3,7 @@ pub mod Those
 pub mod Longest
 pub mod Counting
 pub mod Sweeping
+pub mod Grouping
+pub mod Elements
+pub mod Ordering
+pub mod NormalLaws

@@ -1,9 +1,10 @@
 // The changes of elements: each begins, and each ends.
 ghost use Rattle.std.specs.Prelude.{◌≡◌, ◌≤◌, ◌==◌, take, drop, length, IfOk, All};
+ghost use Rattle.std.specs.Option.{option_copied};
 ghost use Rattle.std.specs.List.Sorted.{IsPermutation};
 ghost use Rattle.pipes_time.specs.Interval.{IsInterval};
 ghost use Rattle.pipes_tuple.specs.Equal.{tuple_eq};
-ghost use Rattle.pipes_output.specs.Changes.{all_changes, change_cmp, first_at, Rising};
+ghost use Rattle.pipes_output.specs.Changes.{all_changes, change_cmp, first_at, first_tuple, Rising};
 ghost use Rattle.pipes_output.specs.Cuts.{IsCut};
 
 use pipes_stream::Elem;
@@ -102,5 +103,15 @@ pub(crate) fn first_instant(changes: &[Change<'_>]) -> Option<u64>
     match changes {
         [] => None,
         [first, ..] => Some(first.at),
+    }
+}
+
+// The tuple of the first change.
+pub(crate) fn first_tuple<'a>(changes: &[Change<'a>]) -> Option<&'a Tuple>
+    ensures { option_copied result ≡ first_tuple changes.now }
+{
+    match changes {
+        [] => None,
+        [first, ..] => Some(first.tuple),
     }
 }

@@ -1,10 +1,11 @@
 // Periods, in which a tuple has one number of copies.
-ghost use Rattle.std.specs.Prelude.{◌≡◌, ◌++◌, take, vec_len, OnOk, OnErr};
-ghost use Rattle.pipes_output.specs.NormalText.{period_line};
+ghost use Rattle.std.specs.Prelude.{◌≡◌, ◌++◌, take, flat_map, vec_len, OnOk, OnErr};
+ghost use Rattle.pipes_output.specs.NormalText.{period_cmp, period_line};
 
 use crate::write::{all_or_nothing, push_fields, push_numbers};
 use pipes_time::Memory;
 use pipes_tuple::Tuple;
+use std::cmp::Ordering;
 use std::marker::Model;
 
 /// An interval in which a tuple has one number of copies: a line of the normal text.
@@ -37,6 +38,19 @@ impl<'a> Period<'a> {
         }
     }
 
+    // By start, then by end, then by tuple.
+    pub(crate) fn order(&self, other: &Period<'_>) -> Ordering
+        ensures { result ≡ period_cmp self.now other.now }
+    {
+        match self.start.cmp(&other.start) {
+            Ordering::Equal => match self.end.cmp(&other.end) {
+                Ordering::Equal => self.tuple.cmp(other.tuple),
+                order => order,
+            },
+            order => order,
+        }
+    }
+
     /// Appends the period's line, with its line feed.
     pub fn print(&self, out: &mut Vec<u8>) -> Result<(), Memory>
         ensures ok { OnOk result (out.new.items ≡ out.old.items ++ period_line self.now) }
@@ -57,5 +71,16 @@ fn push_line(period: &Period, out: &mut Vec<u8>) -> Result<(), Memory>
     push_numbers(&[period.start, period.end, period.copies], out)?;
     push_fields(period.tuple.as_slice(), out)?;
     out.push(b'\n')?;
+    Ok(())
+}
+
+// Appends the lines of the periods.
+pub(crate) fn push_lines(periods: &[Period<'_>], out: &mut Vec<u8>) -> Result<(), Memory>
+    ensures ok { OnOk result (out.new.items ≡ out.old.items ++ flat_map period_line periods.now) }
+    ensures err { OnErr result (take (vec_len out.old) out.new.items ≡ out.old.items) }
+{
+    'periods: for period in periods {
+        push_line(period, out)?;
+    }
     Ok(())
 }
