@@ -7,3 +7,5 @@ pub mod Grouping
 pub mod Elements
 pub mod Ordering
 pub mod NormalLaws
+pub mod Outcomes
+pub mod FieldLaws

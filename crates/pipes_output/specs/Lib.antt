@@ -4,3 +4,4 @@ pub mod NormalText
 pub mod Changes
 pub mod Cuts
 pub mod Sweeps
+pub mod Fields

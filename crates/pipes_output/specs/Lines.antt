@@ -14,13 +14,19 @@ use Rattle.pipes_output.specs.declared.entry.Entry.TheVariants.{Result, Beat, Ac
 use Rattle.pipes_output.specs.declared.entry.RefusedWhy.{RefusedWhy}
 use Rattle.pipes_output.specs.declared.entry.RefusedWhy.TheVariants.{NotDerived, Busy, Limit}
 
--- each number in decimal, after a space
-abbrev pub numbers : List ℕ → List ℕ
-numbers ns = flat_map (λ n. codes " " ++ decimal n) ns
+-- a number in decimal, after a space
+abbrev pub number_field : ℕ → List ℕ
+number_field n = codes " " ++ decimal n
 
--- each value's text, after a space
+abbrev pub numbers : List ℕ → List ℕ
+numbers ns = flat_map number_field ns
+
+-- a value's text, after a space
+abbrev pub value_field : Value → List ℕ
+value_field v = codes " " ++ texts.text_of v
+
 abbrev pub fields_of : List Value → List ℕ
-fields_of tuple = flat_map (λ v. codes " " ++ texts.text_of v) tuple
+fields_of tuple = flat_map value_field tuple
 
 abbrev pub why_field : RefusedWhy → List ℕ
 why_field (NotDerived step) = codes " steps" ++ numbers (step ∷ [])

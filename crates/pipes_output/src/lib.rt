@@ -2,6 +2,7 @@
 #![tactic(auto)]
 
 mod change;
+mod cursor;
 mod entries;
 mod entry;
 mod fault;
