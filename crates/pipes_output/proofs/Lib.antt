@@ -9,3 +9,5 @@ pub mod Ordering
 pub mod NormalLaws
 pub mod Outcomes
 pub mod FieldLaws
+pub mod ValueLaws
+pub mod TupleLaws

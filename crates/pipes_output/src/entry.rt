@@ -3,6 +3,7 @@ ghost use Rattle.std.specs.Prelude.{◌≡◌, ◌++◌, take, vec_len, OnOk, On
 ghost use Rattle.pipes_output.specs.Lines.{line, text_of, numbers, IsEntry, IsNoEntry};
 
 use crate::EntryFault;
+use crate::read::read_tagged;
 use crate::write::{all_or_nothing, push_fields, push_numbers};
 use pipes_stream::Elem;
 use pipes_time::Memory;
@@ -72,14 +73,16 @@ impl Entry {
     /// The entry whose line this is, without its line feed.
     pub fn read(alloc: Global, line: &[u8]) -> Result<Entry, EntryFault>
         ensures text { IfOk result (λ entry. line.now ≡ text_of entry) }
+        ensures entry { IfOk result IsEntry }
 
         // No other entry has this text.
         ensures only { IfOk result (λ entry. (other : Entry) → IsEntry other → line.now ≡ text_of other → other ≡ entry) }
         ensures not_a_line { result ≡ Err EntryFault.NotALine → IsNoEntry line.now }
     {
-        let _ = alloc;
-        let _ = line;
-        Err(EntryFault::Memory)
+        match line {
+            [tag, rest @ ..] => read_tagged(alloc, *tag, rest),
+            [] => Err(EntryFault::NotALine),
+        }
     }
 }
 

@@ -6,8 +6,10 @@ mod cursor;
 mod entries;
 mod entry;
 mod fault;
+mod literal;
 mod normal;
 mod period;
+mod read;
 mod sweep;
 mod write;
 
