@@ -11,3 +11,4 @@ pub mod Outcomes
 pub mod FieldLaws
 pub mod ValueLaws
 pub mod TupleLaws
+pub mod EntryLaws
