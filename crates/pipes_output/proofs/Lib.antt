@@ -12,3 +12,4 @@ pub mod FieldLaws
 pub mod ValueLaws
 pub mod TupleLaws
 pub mod EntryLaws
+pub mod Injective

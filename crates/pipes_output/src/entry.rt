@@ -3,7 +3,7 @@ ghost use Rattle.std.specs.Prelude.{◌≡◌, ◌++◌, take, vec_len, OnOk, On
 ghost use Rattle.pipes_output.specs.Lines.{line, text_of, numbers, IsEntry, IsNoEntry};
 
 use crate::EntryFault;
-use crate::read::read_tagged;
+use crate::read::read_entry;
 use crate::write::{all_or_nothing, push_fields, push_numbers};
 use pipes_stream::Elem;
 use pipes_time::Memory;
@@ -79,10 +79,7 @@ impl Entry {
         ensures only { IfOk result (λ entry. (other : Entry) → IsEntry other → line.now ≡ text_of other → other ≡ entry) }
         ensures not_a_line { result ≡ Err EntryFault.NotALine → IsNoEntry line.now }
     {
-        match line {
-            [tag, rest @ ..] => read_tagged(alloc, *tag, rest),
-            [] => Err(EntryFault::NotALine),
-        }
+        read_entry(alloc, line)
     }
 }
 
