@@ -1,8 +1,10 @@
 // Lists of entries.
-ghost use Rattle.std.specs.Prelude.{◌≡◌, ◌++◌, ◌∷◌, [], OnOk, OnErr};
+ghost use Rattle.std.specs.Prelude.{◌≡◌, ◌++◌, ◌∷◌, [], take, vec_len, OnOk, OnErr};
 ghost use Rattle.pipes_output.specs.Lines.{lines};
 
 use crate::Entry;
+use crate::entry::push_line;
+use crate::write::all_or_nothing;
 use pipes_time::Memory;
 use std::alloc::Global;
 use std::marker::Model;
@@ -53,7 +55,19 @@ impl Entries {
         ensures ok { OnOk result (out.new.items ≡ out.old.items ++ lines self.now) }
         ensures err { OnErr result (out.new.items ≡ out.old.items) }
     {
-        let _ = out;
-        Err(Memory)
+        let before = out.len();
+        let tried = push_lines(self.items.as_slice(), out);
+        all_or_nothing(tried, before, out)
     }
+}
+
+// Appends the entries' lines.
+fn push_lines(entries: &[Entry], out: &mut Vec<u8>) -> Result<(), Memory>
+    ensures ok { OnOk result (out.new.items ≡ out.old.items ++ lines entries.now) }
+    ensures err { OnErr result (take (vec_len out.old) out.new.items ≡ out.old.items) }
+{
+    'entries: for entry in entries {
+        push_line(entry, out)?;
+    }
+    Ok(())
 }

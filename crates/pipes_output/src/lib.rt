@@ -11,6 +11,8 @@ mod normal;
 mod period;
 mod read;
 mod sweep;
+#[cfg(test)]
+mod tests;
 mod write;
 
 pub use entries::Entries;
