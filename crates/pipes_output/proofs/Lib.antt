@@ -13,3 +13,4 @@ pub mod ValueLaws
 pub mod TupleLaws
 pub mod EntryLaws
 pub mod Injective
+pub mod LineLaws
