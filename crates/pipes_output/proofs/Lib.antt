@@ -1,0 +1,16 @@
+pub mod Changing
+pub mod Those
+pub mod Longest
+pub mod Counting
+pub mod Sweeping
+pub mod Grouping
+pub mod Elements
+pub mod Ordering
+pub mod NormalLaws
+pub mod Outcomes
+pub mod FieldLaws
+pub mod ValueLaws
+pub mod TupleLaws
+pub mod EntryLaws
+pub mod Injective
+pub mod LineLaws

@@ -1,0 +1,7 @@
+pub mod Lines
+pub mod Periods
+pub mod NormalText
+pub mod Changes
+pub mod Cuts
+pub mod Sweeps
+pub mod Fields
