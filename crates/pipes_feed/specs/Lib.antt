@@ -1,0 +1,5 @@
+pub mod Behind
+pub mod Judged
+pub mod Items
+pub mod State
+pub mod Ahead

@@ -1,0 +1,10 @@
+//! The items of a source's lines.
+#![tactic(auto)]
+
+mod progress;
+mod reader;
+mod reason;
+
+pub use pipes_window::Item;
+pub use reader::{ItemReader, Next};
+pub use reason::{Reason, RowWhy};
