@@ -1,16 +1,8 @@
--- Where the fields of a line stand.
-use Rattle.std.specs.Prelude.{ℕ, ◌-◌, List, map, take, drop, if◌then◌else◌}
+-- The fields of a line.
+use Rattle.std.specs.Prelude.{ℕ, List, map, if◌then◌else◌}
 use Rattle.pipes_line.specs.declared.record.Record.{Record}
-use Rattle.pipes_line.specs.declared.record.Part.{Part}
+use Rattle.pipes_line.specs.Bytes.{bytes_in}
 
--- the bytes of a text in a part of it
-abbrev pub bytes_in : List ℕ → Part → List ℕ
-bytes_in text part = take (part.to - part.from) (drop part.from text)
-
--- the bytes in which the fields of the line that was read stand: the line itself, or a copy without its quotes
-abbrev pub text_in : Record → List ℕ → List ℕ
-text_in r line = if r.copied then r.copy.items else line
-
--- the fields of the line that was read
+-- the fields of the record that was read from this line: parts of the line itself, or copied without their quotes
 abbrev pub fields_in : Record → List ℕ → List (List ℕ)
-fields_in r line = map (bytes_in (text_in r line)) r.parts.items
+fields_in r line = if r.is_copied then r.copied.closed else map (bytes_in line) r.parts.items

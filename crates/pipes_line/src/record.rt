@@ -2,8 +2,10 @@
 ghost use Rattle.std.specs.Prelude.{◌≡◌, ℕ, List, IfOk, length, option_map, slice_get};
 ghost use Rattle.pipes_line.specs.Content.{content_of, Shows};
 ghost use Rattle.pipes_line.specs.Fields.{fields_in};
-ghost use Rattle.pipes_line.specs.Fields as fields;
+ghost use Rattle.pipes_line.specs.Marks as marks;
 
+use crate::copied::Copied;
+use crate::part::{Part, bytes_in};
 use pipes_time::Memory;
 use std::alloc::Global;
 
@@ -18,20 +20,13 @@ pub enum Shape {
     Several,
 }
 
-/// Where a field stands in a text.
-#[derive(Clone, Copy, Debug, PartialEq, Eq)]
-pub(crate) struct Part {
-    pub(crate) from: usize,
-    pub(crate) to: usize,
-}
-
 /// The fields of one line. The line itself is kept by the caller, who hands it in again: only a line whose fields
 /// are not parts of it is copied.
 #[derive(Debug, Drop)]
 pub struct Record {
-    parts: Vec<Part>,
-    copied: bool,
-    copy: Vec<u8>,
+    pub(crate) parts: Vec<Part>,
+    pub(crate) is_copied: bool,
+    pub(crate) copied: Copied,
 }
 
 impl Record {
@@ -39,8 +34,8 @@ impl Record {
     pub fn new(alloc: Global) -> Record {
         Record {
             parts: Vec::new(alloc),
-            copied: false,
-            copy: Vec::new(alloc),
+            is_copied: false,
+            copied: Copied::new(alloc),
         }
     }
 
@@ -48,35 +43,43 @@ impl Record {
     pub fn read(&mut self, line: &[u8]) -> Result<Shape, Memory>
         ensures { IfOk result (λ shape. Shows shape (fields_in self.new line.now) (content_of line.now)) }
     {
-        let _ = line;
-        Err(Memory)
+        if line.is_empty() {
+            return Ok(Shape::Blank);
+        }
+        if !may_be_marked(line) {
+            if self.split(line)? || self.unquote(line)? {
+                return Ok(Shape::Single);
+            }
+        }
+        self.read_by_csv(line)
     }
 
     /// How many fields there are.
     pub fn len(&self) -> usize
         ensures { (line : List ℕ) → result ≡ length (fields_in self.now line) }
     {
-        self.parts.len()
+        if self.is_copied {
+            self.copied.len()
+        } else {
+            self.parts.len()
+        }
     }
 
     /// A field of the line that was read, which is handed in again.
     pub fn field<'a>(&'a self, line: &'a [u8], i: usize) -> Option<&'a [u8]>
         ensures { option_map (λ field. field.now) result ≡ slice_get (fields_in self.now line.now) i }
     {
+        if self.is_copied {
+            return self.copied.get(i);
+        }
         let part = *self.parts.get(i)?;
-        let text = if self.copied {
-            self.copy.as_slice()
-        } else {
-            line
-        };
-        Some(bytes_in(text, part))
+        Some(bytes_in(line, part))
     }
 }
 
-// The bytes of a text in a part of it, as far as the text reaches.
-fn bytes_in(text: &[u8], part: Part) -> &[u8]
-    ensures { result.now ≡ fields.bytes_in text.now part }
+// Whether a byte order mark may stand at the start.
+fn may_be_marked(line: &[u8]) -> bool
+    ensures { result ≡ marks.may_be_marked line.now }
 {
-    let to = part.to.min(text.len());
-    &text[part.from.min(to)..to]
+    line.first() == Some(&239)
 }
