@@ -1,6 +1,8 @@
 //! The items of a source's lines.
 #![tactic(auto)]
 
+mod judge;
+mod line;
 mod progress;
 mod reader;
 mod reason;

@@ -4,10 +4,11 @@ ghost use Rattle.pipes_edge.specs.Causes.{Rose};
 ghost use Rattle.pipes_feed.specs.Ahead.{ahead, Takes, Follows, MatchNext};
 ghost use Rattle.pipes_feed.specs.State.{fresh_reader};
 
-use crate::Reason;
-use crate::progress::Progress;
+use crate::line::{Verdict, judge};
+use crate::progress::{MOST_BYTES, Progress};
+use crate::{Reason, RowWhy};
 use pipes_edge::Source;
-use pipes_line::{LineReader, Record};
+use pipes_line::{LineReader, NextLine, Record};
 use pipes_time::Memory;
 use pipes_tuple::Schema;
 use pipes_window::Item;
@@ -26,6 +27,7 @@ pub enum Next {
 /// Reads the items of a source.
 #[derive(Drop)]
 pub struct ItemReader {
+    alloc: Global,
     schema: Schema,
     lines: LineReader,
     fields: Record,
@@ -47,6 +49,7 @@ impl ItemReader {
         ensures { IfOk result (λ reader. reader ≡ fresh_reader schema.now) }
     {
         Ok(ItemReader {
+            alloc,
             schema: schema.copy()?,
             lines: LineReader::new(alloc)?,
             fields: Record::new(alloc),
@@ -72,7 +75,70 @@ impl ItemReader {
         if let Some(reason) = self.ended {
             return Next::Ended(reason);
         }
-        self.ended = Some(Reason::Memory);
-        Next::Ended(Reason::Memory)
+        'lines: loop {
+            let Some(next) = self.step(src) else {
+                continue;
+            };
+            if let Next::Ended(reason) = &next {
+                self.ended = Some(*reason);
+            }
+            return next;
+        }
+    }
+
+    // Reads one line; none where it is passed over.
+    fn step<S: Source>(&mut self, src: &mut S) -> Option<Next> {
+        let most = (MOST_BYTES - self.progress.bytes()) as usize;
+        let reason = match self.lines.next_line(src, most) {
+            NextLine::Line(ended) => return self.take_line(ended),
+            NextLine::End if self.progress.lines() == 0 => Reason::Row {
+                line: 1,
+                why: RowWhy::Header,
+            },
+            NextLine::End => Reason::AtEnd,
+            NextLine::Long => Reason::Limit {
+                line: self.progress.lines() + 1,
+            },
+            NextLine::Failed => Reason::Failed,
+            NextLine::Memory => Reason::Memory,
+        };
+        Some(Next::Ended(reason))
+    }
+
+    // Takes the line that was read; none where it is passed over.
+    fn take_line(&mut self, ended: bool) -> Option<Next> {
+        let text = self.lines.line();
+        let size = text.len() as u64 + u64::from(ended);
+        let Ok(verdict) = judge(
+            self.alloc,
+            self.schema.as_slice(),
+            &self.progress,
+            text,
+            size,
+            &mut self.fields,
+        ) else {
+            return Some(Next::Ended(Reason::Memory));
+        };
+        let line = self.progress.lines() + 1;
+        match verdict {
+            Verdict::Pass => {
+                self.progress.pass(size);
+                None
+            }
+            Verdict::Give(item) => {
+                self.progress.give(size, stamp_in(&item));
+                Some(Next::Item(item))
+            }
+            Verdict::Refuse(why) => Some(Next::Ended(Reason::Row { line, why })),
+            Verdict::Limit => Some(Next::Ended(Reason::Limit { line })),
+        }
+    }
+}
+
+// The stamp of an item.
+fn stamp_in(item: &Item) -> u64 {
+    match item {
+        Item::Row(stamp, _) => *stamp,
+        Item::Beat(stamp) => *stamp,
     }
 }
