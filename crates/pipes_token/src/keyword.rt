@@ -1,4 +1,6 @@
 // The words that can't name a source.
+ghost use Rattle.std.specs.Prelude.{◌≡◌};
+ghost use Rattle.pipes_token.specs.Keywords.{keyword_text};
 
 /// A word that can't name a source.
 #[derive(Clone, Copy, Debug, PartialEq, Eq)]
@@ -73,4 +75,49 @@ pub enum Keyword {
     Migrate,
     /// `drain`
     Drain,
+}
+
+impl Keyword {
+    /// How the keyword is spelled: a column may have it as its name.
+    pub fn text(&self) -> &'static str
+        ensures { result.now ≡ keyword_text self.now }
+    {
+        match self {
+            Keyword::Source => "source",
+            Keyword::From => "from",
+            Keyword::Window => "window",
+            Keyword::Time => "time",
+            Keyword::Count => "count",
+            Keyword::Int => "int",
+            Keyword::Text => "text",
+            Keyword::Flag => "flag",
+            Keyword::Plan => "plan",
+            Keyword::Filter => "filter",
+            Keyword::Map => "map",
+            Keyword::Union => "union",
+            Keyword::Join => "join",
+            Keyword::Distinct => "distinct",
+            Keyword::Group => "group",
+            Keyword::Minus => "minus",
+            Keyword::Sum => "sum",
+            Keyword::Min => "min",
+            Keyword::Max => "max",
+            Keyword::Avg => "avg",
+            Keyword::True => "true",
+            Keyword::False => "false",
+            Keyword::And => "and",
+            Keyword::Or => "or",
+            Keyword::Not => "not",
+            Keyword::Step => "step",
+            Keyword::Back => "back",
+            Keyword::At => "at",
+            Keyword::Top => "top",
+            Keyword::With => "with",
+            Keyword::Feed => "feed",
+            Keyword::Rest => "rest",
+            Keyword::Await => "await",
+            Keyword::Migrate => "migrate",
+            Keyword::Drain => "drain",
+        }
+    }
 }

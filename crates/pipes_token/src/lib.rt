@@ -2,9 +2,13 @@
 #![tactic(auto)]
 
 mod keyword;
+mod lex;
+mod place;
 mod refusal;
 mod token;
 
 pub use keyword::Keyword;
+pub use lex::tokens;
+pub use place::{LONGEST_FILE, tell};
 pub use refusal::{ReadFault, Refusal, TextRefusal, TextWhy};
-pub use token::{Sign, Token, TokenKind};
+pub use token::{LONGEST_WORD, Sign, Token, TokenKind};
