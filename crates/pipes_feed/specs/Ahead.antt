@@ -30,6 +30,24 @@ Takes (Some before) now (next.Ended (reason.Limit line)) = before ≡ no_more (r
 Takes (Some before) now (next.Ended reason.Failed) = ⊤
 Takes (Some before) now (next.Ended reason.Memory) = ⊤
 
+-- a line that is passed over changes nothing of the items ahead
+abbrev pub Steps : Option Items → Option Items → Option Next → Type 0
+Steps None now answer = ⊤
+Steps (Some before) now None = now ≡ Some before
+Steps (Some before) now (Some answer) = Takes (Some before) now answer
+
+-- known items stay as they were
+abbrev pub KeepsItems : Option Items → Option Items → Type 0
+KeepsItems None now = ⊤
+KeepsItems (Some before) now = now ≡ Some before
+
+-- a line that was passed over lies behind
+pub record Passes (before now : Behind) : Type 0 where
+  pub items : now.items ≡ before.items
+  pub last : now.last ≡ before.last
+  pub bytes : before.bytes < now.bytes
+  pub short : now.bytes ≤ most_bytes
+
 -- a row's tuple has the kinds of the columns
 abbrev pub ItemFits : List Kind → Item → Type 0
 ItemFits kinds (Row stamp tuple) = Fits tuple kinds

@@ -8,7 +8,9 @@ use Rattle.pipes_feed.specs.declared.reason.RowWhy.TheVariants as why
 use Rattle.pipes_feed.specs.declared.reason.Reason.{Reason}
 use Rattle.pipes_feed.specs.declared.reason.Reason.TheVariants as reason
 use Rattle.pipes_feed.specs.Behind.{Behind, nothing_behind, past_line, past_item}
-use Rattle.pipes_feed.specs.Judged.{Verdict, pass, give, refuse, limit, judge}
+use Rattle.pipes_feed.specs.declared.line.Verdict.{Verdict}
+use Rattle.pipes_feed.specs.declared.line.Verdict.TheVariants.{Pass, Give, Refuse, Limit}
+use Rattle.pipes_feed.specs.Judged.{judge}
 
 -- a list of items, and how it ends
 pub record Items : Type 0 where
@@ -30,10 +32,10 @@ stamp_in (Beat stamp) = stamp
 
 -- what a line of this size gives, before what the lines behind it give
 abbrev pub by_verdict : Behind → ℕ → (Behind → Items) → Verdict → Items
-by_verdict behind size rest pass = rest (past_line behind size)
-by_verdict behind size rest (give item) = put item (rest (past_item behind size (stamp_in item)))
-by_verdict behind size rest (refuse refusal) = no_more (reason.Row (behind.lines + 1) refusal)
-by_verdict behind size rest limit = no_more (reason.Limit (behind.lines + 1))
+by_verdict behind size rest Pass = rest (past_line behind size)
+by_verdict behind size rest (Give item) = put item (rest (past_item behind size (stamp_in item)))
+by_verdict behind size rest (Refuse refusal) = no_more (reason.Row (behind.lines + 1) refusal)
+by_verdict behind size rest Limit = no_more (reason.Limit (behind.lines + 1))
 
 -- where no line is left: a source without line 1 has no header
 abbrev pub end_behind : Behind → Reason

@@ -13,14 +13,9 @@ use Rattle.pipes_line.specs.Content.{Content, blank, single, several, content_of
 use Rattle.pipes_line.specs.Lines.{Line, size_of}
 use Rattle.pipes_feed.specs.declared.reason.RowWhy.{RowWhy}
 use Rattle.pipes_feed.specs.declared.reason.RowWhy.TheVariants as why
+use Rattle.pipes_feed.specs.declared.line.Verdict.{Verdict}
+use Rattle.pipes_feed.specs.declared.line.Verdict.TheVariants.{Pass, Give, Refuse, Limit}
 use Rattle.pipes_feed.specs.Behind.{Behind, most_bytes, most_items}
-
--- what a line is: passed over, an item, refused, or past a limit
-pub data Verdict : Type 0 where
-  pass : Verdict
-  give : Item → Verdict
-  refuse : RowWhy → Verdict
-  limit : Verdict
 
 infixl 10 ◌>>=◌
 -- the first refusal, or what is made of the value
@@ -28,9 +23,9 @@ abbrev pub ◌>>=◌ : {A B : Type 0} → Result A RowWhy → (A → Result B Ro
 (Ok value) >>= next = next value
 (Err refusal) >>= next = Err refusal
 
--- a record has a stamp alone, or a field for each column beside it
-abbrev pub fields_counted : List Kind → List (List ℕ) → Result (List (List ℕ)) RowWhy
-fields_counted kinds values = if (length values == 0) || (length values == length kinds) then Ok values else Err why.Fields
+-- how many fields stand beside the stamp: none, or one for each column
+abbrev pub columns_of : List Kind → ℕ → Result ℕ RowWhy
+columns_of kinds count = if (count == 0) || (count == length kinds) then Ok count else Err why.Fields
 
 -- a stamp: one or more digits, and a number below the horizon
 abbrev pub stamp_of : List ℕ → Result ℕ RowWhy
@@ -57,35 +52,36 @@ values_of column (kind ∷ kinds) (field ∷ fields) =
 
 -- a stamp alone is a heartbeat, and a row has values beside it
 abbrev pub item_with : List Kind → ℕ → List (List ℕ) → Result Item RowWhy
-item_with kinds stamp [] = Ok (Beat stamp)
-item_with kinds stamp (field ∷ fields) = values_of 0 kinds (field ∷ fields) >>= λ tuple. Ok (Row stamp tuple)
+item_with kinds stamp fields =
+    if length fields == 0 then Ok (Beat stamp)
+    else (values_of 0 kinds fields >>= λ tuple. Ok (Row stamp tuple))
 
 -- the item that a record is, behind items with this greatest stamp
 abbrev pub item_of : List Kind → ℕ → List (List ℕ) → Result Item RowWhy
 item_of kinds last [] = Err why.Fields
-item_of kinds last (stamp ∷ fields) =
-    fields_counted kinds fields >>= λ values. stamp_of stamp >>= in_order last >>= λ at. item_with kinds at values
+item_of kinds last (field ∷ fields) =
+    columns_of kinds (length fields) >>= λ count. stamp_of field >>= in_order last >>= λ stamp. item_with kinds stamp fields
 
 -- an item, or a refusal
 abbrev pub verdict_of : Result Item RowWhy → Verdict
-verdict_of (Ok item) = give item
-verdict_of (Err refusal) = refuse refusal
+verdict_of (Ok item) = Give item
+verdict_of (Err refusal) = Refuse refusal
 
 -- line 1: one record with one field more than there are columns, whose texts do not matter
 abbrev pub judge_header : List Kind → Content → Verdict
-judge_header kinds blank = refuse why.Header
-judge_header kinds (single fields) = if length fields == length kinds + 1 then pass else refuse why.Header
-judge_header kinds several = refuse why.Header
+judge_header kinds blank = Refuse why.Header
+judge_header kinds (single fields) = if length fields == length kinds + 1 then Pass else Refuse why.Header
+judge_header kinds several = Refuse why.Header
 
 -- a record, unless there are already as many items as there may be
 abbrev pub counted : Behind → Verdict → Verdict
-counted behind verdict = if behind.items == most_items then limit else verdict
+counted behind verdict = if behind.items == most_items then Limit else verdict
 
 -- a later line
 abbrev pub judge_later : List Kind → Behind → Content → Verdict
-judge_later kinds behind blank = pass
+judge_later kinds behind blank = Pass
 judge_later kinds behind (single fields) = counted behind (verdict_of (item_of kinds behind.last fields))
-judge_later kinds behind several = counted behind (refuse why.Fields)
+judge_later kinds behind several = counted behind (Refuse why.Fields)
 
 -- a line by what it holds
 abbrev pub judge_content : List Kind → Behind → Content → Verdict
@@ -95,5 +91,5 @@ judge_content kinds behind content =
 -- a line: its bytes are counted first, and one carriage return before its end is dropped
 unfoldable pub judge : List Kind → Behind → Line → Verdict
 judge kinds behind line =
-    if nat_lt most_bytes (behind.bytes + size_of line) then limit
+    if nat_lt most_bytes (behind.bytes + size_of line) then Limit
     else judge_content kinds behind (content_of (strip_carriage_return line.text))

@@ -3,3 +3,4 @@ pub mod Judged
 pub mod Items
 pub mod State
 pub mod Ahead
+pub mod Answers

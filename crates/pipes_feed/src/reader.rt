@@ -1,7 +1,11 @@
 // The reader of items.
-ghost use Rattle.std.specs.Prelude.{◌≡◌, ◌≤◌, IfOk, IfSome, Some, None, ⊤};
+ghost use Rattle.std.specs.Prelude.{◌≡◌, ◌≢◌, ◌≤◌, ◌<◌, ◌∷◌, List, length, IfOk, IfSome, IfNone, Some, None, ⊤};
 ghost use Rattle.pipes_edge.specs.Causes.{Rose};
-ghost use Rattle.pipes_feed.specs.Ahead.{ahead, Takes, Follows, MatchNext};
+ghost use Rattle.pipes_line.specs.Lines.{Line, size_of};
+ghost use Rattle.pipes_feed.specs.Ahead.{ahead, Takes, Steps, Follows, Passes, MatchNext};
+ghost use Rattle.pipes_feed.specs.Behind.{most_bytes};
+ghost use Rattle.pipes_feed.specs.Items as items;
+ghost use Rattle.pipes_feed.specs.Items.{items_from};
 ghost use Rattle.pipes_feed.specs.State.{fresh_reader};
 
 use crate::line::{Verdict, judge};
@@ -9,6 +13,7 @@ use crate::progress::{MOST_BYTES, Progress};
 use crate::{Reason, RowWhy};
 use pipes_edge::Source;
 use pipes_line::{LineReader, NextLine, Record};
+use pipes_query::SourceDecl;
 use pipes_time::Memory;
 use pipes_tuple::Schema;
 use pipes_window::Item;
@@ -44,13 +49,13 @@ impl Model for ItemReader {
 }
 
 impl ItemReader {
-    /// A reader of the items of a source with these columns, which has read nothing.
-    pub fn new(alloc: Global, schema: &Schema) -> Result<ItemReader, Memory>
-        ensures { IfOk result (λ reader. reader ≡ fresh_reader schema.now) }
+    /// A reader of the items of a source as a query declares it, which has read nothing.
+    pub fn new(alloc: Global, decl: &SourceDecl) -> Result<ItemReader, Memory>
+        ensures { IfOk result (λ reader. reader ≡ fresh_reader decl.now.schema) }
     {
         Ok(ItemReader {
             alloc,
-            schema: schema.copy()?,
+            schema: decl.schema.copy()?,
             lines: LineReader::new(alloc)?,
             fields: Record::new(alloc),
             progress: Progress::new(),
@@ -86,57 +91,92 @@ impl ItemReader {
         }
     }
 
-    // Reads one line; none where it is passed over.
-    fn step<S: Source>(&mut self, src: &mut S) -> Option<Next> {
+    // Reads a line; none where it is passed over.
+    fn step<S: Source>(&mut self, src: &mut S) -> Option<Next>
+        ensures steps { Steps (ahead self.old (S.left src.old)) (ahead self.new (S.left src.new)) result }
+        ensures follows { IfSome result (λ next. MatchNext next (Follows self.old.kinds self.old.behind self.new.behind) (λ _. ⊤)) }
+        ensures passes { IfNone result (Passes self.old.behind self.new.behind) }
+        ensures kinds { self.new.kinds ≡ self.old.kinds }
+        ensures ended { self.new.ended ≡ self.old.ended }
+        ensures later { S.faults src.old ≤ S.faults src.new }
+        ensures cause { result ≡ Some (Next.Ended Reason.Failed) → Rose (S.faults src.old) (S.faults src.new) }
+        ensures name { S.name src.new ≡ S.name src.old }
+        ensures found_at { S.found_at src.new ≡ S.found_at src.old }
+    {
         let most = (MOST_BYTES - self.progress.bytes()) as usize;
-        let reason = match self.lines.next_line(src, most) {
-            NextLine::Line(ended) => return self.take_line(ended),
-            NextLine::End if self.progress.lines() == 0 => Reason::Row {
-                line: 1,
-                why: RowWhy::Header,
-            },
-            NextLine::End => Reason::AtEnd,
-            NextLine::Long => Reason::Limit {
+        match self.lines.next_line(src, most) {
+            NextLine::Line(ended) => take_line(
+                self.alloc,
+                &self.schema,
+                &mut self.progress,
+                self.lines.line(),
+                ended,
+                &mut self.fields,
+            ),
+            NextLine::End => Some(Next::Ended(end_behind(&self.progress))),
+            NextLine::Long => Some(Next::Ended(Reason::Limit {
                 line: self.progress.lines() + 1,
-            },
-            NextLine::Failed => Reason::Failed,
-            NextLine::Memory => Reason::Memory,
-        };
-        Some(Next::Ended(reason))
-    }
-
-    // Takes the line that was read; none where it is passed over.
-    fn take_line(&mut self, ended: bool) -> Option<Next> {
-        let text = self.lines.line();
-        let size = text.len() as u64 + u64::from(ended);
-        let Ok(verdict) = judge(
-            self.alloc,
-            self.schema.as_slice(),
-            &self.progress,
-            text,
-            size,
-            &mut self.fields,
-        ) else {
-            return Some(Next::Ended(Reason::Memory));
-        };
-        let line = self.progress.lines() + 1;
-        match verdict {
-            Verdict::Pass => {
-                self.progress.pass(size);
-                None
-            }
-            Verdict::Give(item) => {
-                self.progress.give(size, stamp_in(&item));
-                Some(Next::Item(item))
-            }
-            Verdict::Refuse(why) => Some(Next::Ended(Reason::Row { line, why })),
-            Verdict::Limit => Some(Next::Ended(Reason::Limit { line })),
+            })),
+            NextLine::Failed => Some(Next::Ended(Reason::Failed)),
+            NextLine::Memory => Some(Next::Ended(Reason::Memory)),
         }
     }
 }
 
+// How the items end where no line is left.
+fn end_behind(progress: &Progress) -> Reason
+    ensures { result ≡ items.end_behind progress.now }
+{
+    if progress.lines() == 0 {
+        Reason::Row {
+            line: 1,
+            why: RowWhy::Header,
+        }
+    } else {
+        Reason::AtEnd
+    }
+}
+
+// Takes a line; none where it is passed over.
+#[tactic(auto, unfolding(crate::specs::Items::items_from))]
+fn take_line(
+    alloc: Global,
+    schema: &Schema,
+    progress: &mut Progress,
+    text: &[u8],
+    ended: bool,
+    fields: &mut Record,
+) -> Option<Next>
+    requires some { 0 < size_of (record { text = text.now; ended = ended }) }
+    requires short { length text.now ≤ most_bytes }
+    ensures steps { (more : List Line) → Steps (Some (items_from schema.now progress.old (record { text = text.now; ended = ended } ∷ more))) (Some (items_from schema.now progress.new more)) result }
+    ensures follows { IfSome result (λ next. MatchNext next (Follows schema.now progress.old progress.new) (λ _. ⊤)) }
+    ensures passes { IfNone result (Passes progress.old progress.new) }
+    ensures reads { result ≢ Some (Next.Ended Reason.Failed) }
+{
+    let Ok(verdict) = judge(alloc, schema, progress, text, ended, fields) else {
+        return Some(Next::Ended(Reason::Memory));
+    };
+    let size = text.len() as u64 + if ended { 1 } else { 0 };
+    let line = progress.lines() + 1;
+    match verdict {
+        Verdict::Pass => {
+            progress.pass(size);
+            None
+        }
+        Verdict::Give(item) => {
+            progress.give(size, stamp_in(&item));
+            Some(Next::Item(item))
+        }
+        Verdict::Refuse(why) => Some(Next::Ended(Reason::Row { line, why })),
+        Verdict::Limit => Some(Next::Ended(Reason::Limit { line })),
+    }
+}
+
 // The stamp of an item.
-fn stamp_in(item: &Item) -> u64 {
+fn stamp_in(item: &Item) -> u64
+    ensures { result ≡ items.stamp_in item.now }
+{
     match item {
         Item::Row(stamp, _) => *stamp,
         Item::Beat(stamp) => *stamp,
