@@ -1,8 +1,9 @@
 // What a whole line is.
-ghost use Rattle.std.specs.Prelude.{◌≡◌, ◌≤◌, IfOk, length};
+ghost use Rattle.std.specs.Prelude.{◌≡◌, ◌≤◌, ◌+◌, IfOk, length};
 ghost use Rattle.std.specs.Str.Lines.{strip_carriage_return};
 ghost use Rattle.pipes_line.specs.Content.{Content, content_of, Shows};
 ghost use Rattle.pipes_line.specs.Fields.{fields_in};
+ghost use Rattle.pipes_line.specs.Lines as lines;
 ghost use Rattle.pipes_feed.specs.Behind.{most_bytes};
 ghost use Rattle.pipes_feed.specs.Judged as judged;
 
@@ -41,8 +42,7 @@ pub(crate) fn judge(
     requires { length text.now ≤ most_bytes }
     ensures { IfOk result (λ verdict. verdict ≡ judged.judge schema.now progress.now (record { text = text.now; ended = ended })) }
 {
-    let feed = if ended { 1 } else { 0 };
-    if MOST_BYTES < progress.bytes() + (text.len() as u64 + feed) {
+    if MOST_BYTES < progress.bytes() + size_of(text, ended) {
         return Ok(Verdict::Limit);
     }
     let line = strip(text);
@@ -52,6 +52,16 @@ pub(crate) fn judge(
     } else {
         judge_later(alloc, schema, progress, shape, line, fields)
     }
+}
+
+/// How many bytes a line has, its line feed included.
+pub(crate) fn size_of(text: &[u8], ended: bool) -> u64
+    requires { length text.now ≤ most_bytes }
+    ensures value { result ≡ lines.size_of (record { text = text.now; ended = ended }) }
+    ensures bound { result ≤ most_bytes + 1 }
+{
+    let feed = if ended { 1 } else { 0 };
+    text.len() as u64 + feed
 }
 
 // Without one carriage return at its end.

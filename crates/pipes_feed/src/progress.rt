@@ -48,6 +48,7 @@ impl Progress {
     pub(crate) fn lines(&self) -> u64
         ensures value { result ≡ self.now.lines }
         ensures bound { result ≤ most_bytes }
+        ensures few { self.now.items ≤ most_items }
     {
         self.lines
     }

@@ -1,14 +1,15 @@
 // The reader of items.
 ghost use Rattle.std.specs.Prelude.{◌≡◌, ◌≢◌, ◌≤◌, ◌<◌, ◌∷◌, List, length, IfOk, IfSome, IfNone, Some, None, ⊤};
 ghost use Rattle.pipes_edge.specs.Causes.{Rose};
-ghost use Rattle.pipes_line.specs.Lines.{Line, size_of};
+ghost use Rattle.pipes_line.specs.Lines.{Line};
+ghost use Rattle.pipes_line.specs.Lines as lines;
 ghost use Rattle.pipes_feed.specs.Ahead.{ahead, Takes, Steps, Follows, Passes, MatchNext};
 ghost use Rattle.pipes_feed.specs.Behind.{most_bytes};
 ghost use Rattle.pipes_feed.specs.Items as items;
 ghost use Rattle.pipes_feed.specs.Items.{items_from};
 ghost use Rattle.pipes_feed.specs.State.{fresh_reader};
 
-use crate::line::{Verdict, judge};
+use crate::line::{Verdict, judge, size_of};
 use crate::progress::{MOST_BYTES, Progress};
 use crate::{Reason, RowWhy};
 use pipes_edge::Source;
@@ -147,7 +148,7 @@ fn take_line(
     ended: bool,
     fields: &mut Record,
 ) -> Option<Next>
-    requires some { 0 < size_of (record { text = text.now; ended = ended }) }
+    requires some { 0 < lines.size_of (record { text = text.now; ended = ended }) }
     requires short { length text.now ≤ most_bytes }
     ensures steps { (more : List Line) → Steps (Some (items_from schema.now progress.old (record { text = text.now; ended = ended } ∷ more))) (Some (items_from schema.now progress.new more)) result }
     ensures follows { IfSome result (λ next. MatchNext next (Follows schema.now progress.old progress.new) (λ _. ⊤)) }
@@ -157,7 +158,7 @@ fn take_line(
     let Ok(verdict) = judge(alloc, schema, progress, text, ended, fields) else {
         return Some(Next::Ended(Reason::Memory));
     };
-    let size = text.len() as u64 + if ended { 1 } else { 0 };
+    let size = size_of(text, ended);
     let line = progress.lines() + 1;
     match verdict {
         Verdict::Pass => {

@@ -4,3 +4,4 @@ pub mod PartFields
 pub mod Copying
 pub mod Walking
 pub mod Slices
+pub mod FirstLine

@@ -1,9 +1,8 @@
-use Rattle.std.proofs.Common.{rules, arith, ◌≡◌, ◌<◌, ◌+◌, ◌++◌, ◌∷◌, ◌∙◌, [], length, List, Vec, Global, ap, subst, sym, length-append}
-use Rattle.std.specs.Prelude.{Result, Ok, Err}
+use Rattle.std.proofs.Common.{rules, ◌≡◌, ◌+◌, ◌++◌, ◌∷◌, ◌∙◌, [], length, Vec, Global, ap}
 use Rattle.std.proofs.lemmas.List.{length_push}
 use Rattle.pipes_tuple.specs.declared.value.Value.{Value}
 use Rattle.pipes_line.specs.Fields.{fields_in}
-use Rattle.pipes_feed.proofs.Columns.{SoFar, one_more, one_fails, one_lacks}
+use Rattle.pipes_feed.proofs.Columns.{one_more, one_fails, one_lacks}
 use Rattle.pipes_feed.proofs.judge.values_of.Goals as goal
 
 pub columns-preserved : goal.columns-preserved

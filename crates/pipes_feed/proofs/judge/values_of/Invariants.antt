@@ -1,4 +1,4 @@
-use Rattle.std.proofs.Common.{◌≡◌, ◌≤◌, length, drop}
+use Rattle.std.proofs.Common.{◌≡◌, length, drop}
 use Rattle.pipes_line.specs.Fields.{fields_in}
 use Rattle.pipes_feed.specs.Judged.{values_of}
 use Rattle.pipes_feed.proofs.Columns.{SoFar}
