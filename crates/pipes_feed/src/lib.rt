@@ -6,6 +6,8 @@ mod line;
 mod progress;
 mod reader;
 mod reason;
+#[cfg(test)]
+mod tests;
 
 pub use pipes_window::Item;
 pub use reader::{ItemReader, Next};
