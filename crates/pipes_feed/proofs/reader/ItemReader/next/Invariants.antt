@@ -1,0 +1,20 @@
+use Rattle.std.proofs.Common.{◌≡◌, ◌≤◌, ◌-◌, None}
+use Rattle.pipes_feed.specs.Ahead.{ahead, KeepsItems}
+use Rattle.pipes_feed.proofs.reader.ItemReader.next.Given as goal
+
+abbrev pub invariant-lines : goal.invariant-lines
+invariant-lines g l = record {
+  same : KeepsItems (ahead l.fn.self (g.S.Source.left l.fn.src)) (ahead l.self (g.S.Source.left l.src));
+  kinds : l.self.kinds ≡ l.fn.self.kinds;
+  goes_on : l.self.ended ≡ None;
+  began : l.fn.self.ended ≡ None;
+  items : l.self.behind.items ≡ l.fn.self.behind.items;
+  last : l.self.behind.last ≡ l.fn.self.behind.last;
+  bytes : l.fn.self.behind.bytes ≤ l.self.behind.bytes;
+  later : g.S.Source.faults l.fn.src ≤ g.S.Source.faults l.src;
+  name : g.S.Source.name l.src ≡ g.S.Source.name l.fn.src;
+  found_at : g.S.Source.found_at l.src ≡ g.S.Source.found_at l.fn.src;
+}
+
+abbrev pub decreases-lines : goal.decreases-lines
+decreases-lines g l = 1073741824 - l.self.behind.bytes

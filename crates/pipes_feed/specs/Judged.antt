@@ -1,0 +1,95 @@
+-- What a line of a source is.
+use Rattle.std.specs.Prelude.{ℕ, ◌+◌, List, [], ◌∷◌, length, nat_lt, ◌==◌, ◌||◌, if◌then◌else◌, Result, Ok, Err}
+use Rattle.std.specs.Str.Lines.{strip_carriage_return}
+use Rattle.std.specs.Str.Parse.{digits_value}
+use Rattle.pipes_time.specs.Interval.{horizon}
+use Rattle.pipes_tuple.specs.declared.value.Kind.{Kind}
+use Rattle.pipes_tuple.specs.declared.value.Value.{Value}
+use Rattle.pipes_tuple.specs.declared.read.ValueRefusal.{ValueRefusal}
+use Rattle.pipes_tuple.specs.Reading.{is_numeral, reading}
+use Rattle.pipes_window.specs.declared.item.Item.{Item}
+use Rattle.pipes_window.specs.declared.item.Item.TheVariants.{Row, Beat}
+use Rattle.pipes_line.specs.Content.{Content, blank, single, several, content_of}
+use Rattle.pipes_line.specs.Lines.{Line, size_of}
+use Rattle.pipes_feed.specs.declared.reason.RowWhy.{RowWhy}
+use Rattle.pipes_feed.specs.declared.reason.RowWhy.TheVariants as why
+use Rattle.pipes_feed.specs.declared.line.Verdict.{Verdict}
+use Rattle.pipes_feed.specs.declared.line.Verdict.TheVariants.{Pass, Give, Refuse, Limit}
+use Rattle.pipes_feed.specs.Behind.{Behind, most_bytes, most_items}
+
+infixl 10 ◌>>=◌
+-- the first refusal, or what is made of the value
+abbrev pub ◌>>=◌ : {A B : Type 0} → Result A RowWhy → (A → Result B RowWhy) → Result B RowWhy
+(Ok value) >>= next = next value
+(Err refusal) >>= next = Err refusal
+
+-- how many fields stand beside the stamp: none, or one for each column
+abbrev pub columns_of : List Kind → ℕ → Result ℕ RowWhy
+columns_of kinds count = if (count == 0) || (count == length kinds) then Ok count else Err why.Fields
+
+-- a stamp: one or more digits, and a number below the horizon
+abbrev pub stamp_of : List ℕ → Result ℕ RowWhy
+stamp_of field =
+    if is_numeral field
+    then (if nat_lt (digits_value 10 field) horizon then Ok (digits_value 10 field) else Err why.Range)
+    else Err why.Stamp
+
+-- a stamp that is not below the last
+abbrev pub in_order : ℕ → ℕ → Result ℕ RowWhy
+in_order last stamp = if nat_lt stamp last then Err (why.Falling stamp last) else Ok stamp
+
+-- a value, or why the field of this column is none
+abbrev pub value_of : ℕ → Result Value ValueRefusal → Result Value RowWhy
+value_of column (Ok value) = Ok value
+value_of column (Err refusal) = Err (why.Value column refusal)
+
+-- the values of the columns from this one on, the leftmost refusal first
+abbrev pub values_of : ℕ → List Kind → List (List ℕ) → Result (List Value) RowWhy
+values_of column [] fields = Ok []
+values_of column (kind ∷ kinds) [] = Err why.Fields
+values_of column (kind ∷ kinds) (field ∷ fields) =
+    value_of column (reading kind field) >>= λ value. values_of (column + 1) kinds fields >>= λ values. Ok (value ∷ values)
+
+-- a stamp alone is a heartbeat, and a row has values beside it
+abbrev pub item_with : List Kind → ℕ → List (List ℕ) → Result Item RowWhy
+item_with kinds stamp fields =
+    if length fields == 0 then Ok (Beat stamp)
+    else (values_of 0 kinds fields >>= λ tuple. Ok (Row stamp tuple))
+
+-- the item that a record is, behind items with this greatest stamp
+abbrev pub item_of : List Kind → ℕ → List (List ℕ) → Result Item RowWhy
+item_of kinds last [] = Err why.Fields
+item_of kinds last (field ∷ fields) =
+    columns_of kinds (length fields) >>= λ count. stamp_of field >>= in_order last >>= λ stamp. item_with kinds stamp fields
+
+-- an item, or a refusal
+abbrev pub verdict_of : Result Item RowWhy → Verdict
+verdict_of (Ok item) = Give item
+verdict_of (Err refusal) = Refuse refusal
+
+-- line 1: one record with one field more than there are columns, whose texts do not matter
+abbrev pub judge_header : List Kind → Content → Verdict
+judge_header kinds blank = Refuse why.Header
+judge_header kinds (single fields) = if length fields == length kinds + 1 then Pass else Refuse why.Header
+judge_header kinds several = Refuse why.Header
+
+-- a record, unless there are already as many items as there may be
+abbrev pub counted : Behind → Verdict → Verdict
+counted behind verdict = if behind.items == most_items then Limit else verdict
+
+-- a later line
+abbrev pub judge_later : List Kind → Behind → Content → Verdict
+judge_later kinds behind blank = Pass
+judge_later kinds behind (single fields) = counted behind (verdict_of (item_of kinds behind.last fields))
+judge_later kinds behind several = counted behind (Refuse why.Fields)
+
+-- a line by what it holds
+abbrev pub judge_content : List Kind → Behind → Content → Verdict
+judge_content kinds behind content =
+    if behind.lines == 0 then judge_header kinds content else judge_later kinds behind content
+
+-- a line: its bytes are counted first, and one carriage return before its end is dropped
+unfoldable pub judge : List Kind → Behind → Line → Verdict
+judge kinds behind line =
+    if nat_lt most_bytes (behind.bytes + size_of line) then Limit
+    else judge_content kinds behind (content_of (strip_carriage_return line.text))

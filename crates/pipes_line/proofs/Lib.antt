@@ -1,0 +1,7 @@
+pub mod OneRecord
+pub mod Machine
+pub mod PartFields
+pub mod Copying
+pub mod Walking
+pub mod Slices
+pub mod FirstLine

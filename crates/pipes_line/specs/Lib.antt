@@ -1,0 +1,10 @@
+pub mod Bytes
+pub mod Content
+pub mod Copied
+pub mod Fields
+pub mod Lines
+pub mod Marks
+pub mod Parts
+pub mod Reading
+pub mod State
+pub mod Walk
