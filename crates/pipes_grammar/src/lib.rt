@@ -1,0 +1,14 @@
+//! The grammar of expressions and plans, and their readers over tokens.
+#![tactic(auto)]
+
+mod expr;
+mod fault;
+mod list;
+mod op;
+mod plan;
+
+pub use expr::read_expr;
+pub use fault::ParseFault;
+pub use list::read_exprs;
+pub use op::Op;
+pub use plan::read_plan;
