@@ -1,6 +1,10 @@
 //! Queries: sources with their columns and windows, and a plan over them, as values and as texts.
 #![tactic(auto)]
 
+mod mark;
 mod query;
+mod read;
+mod source;
+mod take;
 
 pub use query::{ColumnNames, Query, SourceDecl, Sources};
