@@ -41,12 +41,12 @@ abbrev pub StopsString : TextWhy → List ℕ → Type 0
 StopsString why [] = why ≡ Ended
 StopsString why (b ∷ bs) = (why ≡ Byte) × (b ≢ 34) × HasNoChar (b ∷ bs)
 
--- A string begins here, at place `at` of a text, and is refused behind some characters.
-pub record IsCut (at : ℕ) (bs : List ℕ) (refusal : Refusal) : Type 0 where
+-- A string begins here and is refused behind some characters, in a text of n bytes of which `left` are left there.
+pub record IsCut (n : ℕ) (bs : List ℕ) (refusal : Refusal) : Type 0 where
   pub characters : List ℕ
   pub inside : List ℕ
   pub left : List ℕ
   pub spells : SpellsChars characters inside
   pub begins : bs ≡ 34 ∷ (inside ++ left)
-  pub place : refusal.at ≡ at + 1 + length inside
+  pub place : refusal.at + length left ≡ n
   pub stops : StopsString refusal.why left

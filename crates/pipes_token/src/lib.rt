@@ -7,7 +7,7 @@ mod place;
 mod refusal;
 mod token;
 
-pub use keyword::Keyword;
+pub use keyword::{KEYWORDS, Keyword};
 pub use lex::tokens;
 pub use place::{LONGEST_FILE, tell};
 pub use refusal::{ReadFault, Refusal, TextRefusal, TextWhy};
