@@ -3,6 +3,10 @@ use Rattle.std.proofs.Common.{◌≡◌, ◌≢◌, ℕ, ◌+◌, ◌<◌, ◌�
 use Rattle.std.specs.Prelude.{◌==◌}
 use Rattle.std.specs.List.{list_all}
 use Rattle.std.proofs.lemmas.Bool.{and_parts, not-true, eqb-true, ne_eqb, cases_Bool}
+use Rattle.std.proofs.Common.{drop, take, take-append-drop}
+use Rattle.std.specs.List.{prefix_len}
+use Rattle.std.proofs.lemmas.Bool.{not-false}
+use Rattle.pipes_token.proofs.Runs.{Stopped, run_passes, run_stops}
 use Rattle.pipes_token.specs.Gaps.{is_separator, is_within_line, EndsLine, IsGap, none, separator, comment, BeginsNoGap, IsPastGap}
 
 -- what is left behind separators and comments, or, where `within` a comment, behind that too
@@ -52,3 +56,28 @@ past_comment line bs here l k p = record {
 
 pub past_shorter : (bs here : List ℕ) → IsPastGap bs here → length here ≤ length bs
 past_shorter bs here p = omega (arith, ap (λ (x : List ℕ). length x) p.parts, length-append p.gap here)
+
+line_stops : (bs : List ℕ) → Stopped is_within_line bs → EndsLine bs
+line_stops [] h = tt
+line_stops (b ∷ bs) h = eqb-true b 10 (not-false (b == 10) h)
+
+pub past_line_end : (bs here : List ℕ) → IsPastGap (drop (prefix_len is_within_line bs) bs) here → IsPastGap (35 ∷ bs) here
+past_line_end bs here p =
+    let n = prefix_len is_within_line bs in
+    subst (λ (x : List ℕ). IsPastGap (35 ∷ x) here) (take-append-drop n bs) (past_comment (take n bs) (drop n bs) here (run_passes is_within_line bs) (line_stops (drop n bs) (run_stops is_within_line bs)) p)
+
+-- ---- the loop over a gap
+
+pub more_separator : (b : ℕ) (rest behind here : List ℕ) → rest ≡ b ∷ behind → is_separator b ≡ true → IsPastGap behind here → IsPastGap rest here
+more_separator b rest behind here e s p = subst (λ (x : List ℕ). IsPastGap x here) (sym e) (past_separator b behind here s p)
+
+pub more_comment : (b : ℕ) (rest behind left here : List ℕ) → rest ≡ b ∷ behind → b ≡ 35 → left ≡ drop (prefix_len is_within_line behind) behind → IsPastGap left here → IsPastGap rest here
+more_comment b rest behind left here e s f p =
+    let whole : 35 ∷ behind ≡ rest = ap (λ (x : ℕ). x ∷ behind) (sym s) ∙ sym e in
+    subst (λ (x : List ℕ). IsPastGap x here) whole (past_line_end behind here (subst (λ (x : List ℕ). IsPastGap x here) f p))
+
+pub past_token : (b : ℕ) (rest behind : List ℕ) → rest ≡ b ∷ behind → is_separator b ≡ false → b ≢ 35 → IsPastGap rest rest
+past_token b rest behind e s h = past_none rest (subst BeginsNoGap (sym e) (s, h))
+
+pub past_all : (rest : List ℕ) → rest ≡ [] → IsPastGap rest rest
+past_all rest e = past_none rest (subst BeginsNoGap (sym e) tt)

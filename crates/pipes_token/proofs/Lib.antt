@@ -1,3 +1,4 @@
+pub mod Runs
 pub mod Characters
 pub mod Gaps
 pub mod Strings

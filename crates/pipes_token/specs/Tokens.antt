@@ -1,5 +1,5 @@
 -- The tokens of a text.
-use Rattle.std.specs.Prelude.{◌≡◌, ◌≢◌, ℕ, ◌+◌, List, [], ◌∷◌, ◌++◌, length}
+use Rattle.std.specs.Prelude.{◌≡◌, ◌≢◌, ℕ, ◌+◌, Bool, true, false, List, [], ◌∷◌, ◌++◌, length, ◌⊎◌}
 use Rattle.pipes_token.specs.declared.token.TokenKind.{TokenKind}
 use Rattle.pipes_token.specs.declared.token.TokenKind.TheVariants.{Long, Cut, Byte, End}
 use Rattle.pipes_token.specs.declared.token.Token.{Token}
@@ -36,3 +36,23 @@ pub data Tokens (n : ℕ) : List ℕ → List Token → Type 0 where
   next : (bs here rest : List ℕ) (token : Token) (tokens : List Token) → IsPlaced n bs here token → Begins token.kind here rest → token.kind ≢ Long → Tokens n rest tokens → Tokens n bs (token ∷ tokens)
   too_long : (bs here rest : List ℕ) (token : Token) → IsPlaced n bs here token → Begins token.kind here rest → token.kind ≡ Long → Tokens n bs (token ∷ [])
   stopped : (bs here : List ℕ) (token : Token) → IsPlaced n bs here token → Stops n here token.kind → Tokens n bs (token ∷ [])
+
+-- ---- one token after the other
+
+-- no token follows
+abbrev pub is_last : TokenKind → Bool
+is_last Long = true
+is_last (Cut refusal) = true
+is_last Byte = true
+is_last End = true
+is_last _ = false
+
+-- what stands here, in a text of n bytes: a token, and what is left behind it, or why there is none
+abbrev pub Reads : ℕ → List ℕ → TokenKind → List ℕ → Type 0
+Reads n here kind rest = Begins kind here rest ⊎ Stops n here kind
+
+-- The token behind the gap that stands here, in a text of n bytes, and what is left behind it.
+pub record Follows (n : ℕ) (bs : List ℕ) (token : Token) (rest : List ℕ) : Type 0 where
+  pub here : List ℕ
+  pub placed : IsPlaced n bs here token
+  pub reads : Reads n here token.kind rest

@@ -1,9 +1,12 @@
 //! The tokens of a text: of a query, of a script, of a derivation.
 #![tactic(auto)]
 
+mod bytes;
+mod gap;
 mod keyword;
 mod lex;
 mod place;
+mod quoted;
 mod refusal;
 mod token;
 
