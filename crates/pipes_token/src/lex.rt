@@ -9,8 +9,8 @@ use std::alloc::Global;
 
 /// The tokens of the bytes, of which the last tells how the text ends or why it is refused. There is only one such list.
 pub fn tokens(alloc: Global, bytes: &[u8]) -> Result<Vec<Token>, Memory>
-    ensures tokens { IfOk result (λ made. Tokens 0 bytes.now made.items) }
-    ensures only { (others : List AToken) → Tokens 0 bytes.now others → IfOk result (λ made. made.items ≡ others) }
+    ensures tokens { IfOk result (λ made. Tokens (length bytes.now) bytes.now made.items) }
+    ensures only { (others : List AToken) → Tokens (length bytes.now) bytes.now others → IfOk result (λ made. made.items ≡ others) }
 {
     let _ = bytes.len();
     let _ = Vec::<Token>::new(alloc);
