@@ -6,9 +6,12 @@ mod fault;
 mod list;
 mod op;
 mod plan;
+mod start;
+mod tokens;
 
 pub use expr::read_expr;
 pub use fault::ParseFault;
 pub use list::read_exprs;
 pub use op::Op;
 pub use plan::read_plan;
+pub use tokens::refused;
