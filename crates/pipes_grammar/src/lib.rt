@@ -1,9 +1,11 @@
 //! The grammar of expressions and plans, and their readers over tokens.
 #![tactic(auto)]
 
+mod entry;
 mod expr;
 mod fault;
 mod list;
+mod node;
 mod op;
 mod plan;
 mod start;
