@@ -1,13 +1,17 @@
 -- How an expression is read: its value, or its first refusal.
 use Rattle.std.specs.Prelude.{ℕ, zero, suc, ℤ, pos, ◌-ℤ◌, Bool, true, false, if◌then◌else◌, nat_lt, nat_le, [], ◌∷◌, Option, Some, None, Ok, Err}
 use Rattle.pipes_token.specs.declared.refusal.TextWhy.TheVariants as why
+use Rattle.pipes_token.specs.declared.token.Sign.{Sign as ASign}
 use Rattle.pipes_token.specs.declared.token.Sign.TheVariants.{Open, Close, Dollar, Minus}
+use Rattle.pipes_token.specs.declared.keyword.Keyword.{Keyword as AKeyword}
 use Rattle.pipes_token.specs.declared.keyword.Keyword.TheVariants as keyword
 use Rattle.pipes_token.specs.declared.token.TokenKind.{TokenKind}
 use Rattle.pipes_token.specs.declared.token.TokenKind.TheVariants.{Sign, Keyword, Number, Text, Cut}
 use Rattle.pipes_plan.specs.declared.expr.Expr.{Expr}
 use Rattle.pipes_plan.specs.declared.expr.Expr.TheVariants as expr
 use Rattle.pipes_grammar.specs.declared.op.Op.{Op}
+use Rattle.pipes_grammar.specs.declared.start.ExprStart.{ExprStart}
+use Rattle.pipes_grammar.specs.declared.start.ExprStart.TheVariants.{Pair, Not, Column, Negative, Flag, Leaf}
 use Rattle.pipes_grammar.specs.Ops.{op_of, joined}
 use Rattle.pipes_grammar.specs.Reading.{Reads, ◌>>=◌, run_out, refusal, refused_by, place_of, too_deep, wanted}
 
@@ -72,18 +76,41 @@ negative_expr ts = do
   n ← read_negative ts
   Ok (expr.Int n.0, n.1)
 
+abbrev pub leaf_by : TokenKind → ℕ → Reads Expr
+leaf_by (Number n) at ts = if nat_lt n 9223372036854775808 then Ok (expr.Int (pos n), ts) else Err (refusal at why.Range)
+leaf_by (Text t) at ts = Ok (expr.Text t, ts)
+leaf_by (Cut r) at ts = Err r
+leaf_by k at ts = Err (refused_by k at)
+
+-- how an expression begins
+abbrev pub start_of_sign : ASign → ExprStart
+start_of_sign Open = Pair
+start_of_sign Dollar = Column
+start_of_sign Minus = Negative
+start_of_sign _ = Leaf
+
+abbrev pub start_of_keyword : AKeyword → ExprStart
+start_of_keyword keyword.Not = Not
+start_of_keyword keyword.True = Flag true
+start_of_keyword keyword.False = Flag false
+start_of_keyword _ = Leaf
+
+abbrev pub start_of : TokenKind → ExprStart
+start_of (Sign s) = start_of_sign s
+start_of (Keyword k) = start_of_keyword k
+start_of _ = Leaf
+
+abbrev pub expr_by_start : ExprStart → TokenKind → ℕ → Reads Expr → Reads Expr
+expr_by_start Pair k at read ts = pair_from read ts
+expr_by_start Not k at read ts = not_from read ts
+expr_by_start Column k at read ts = column_expr ts
+expr_by_start Negative k at read ts = negative_expr ts
+expr_by_start (Flag b) k at read ts = Ok (expr.Flag b, ts)
+expr_by_start Leaf k at read ts = leaf_by k at ts
+
 -- the expression that begins with a token of this kind at this place
 abbrev pub expr_by : TokenKind → ℕ → Reads Expr → Reads Expr
-expr_by (Sign Open) at read ts = pair_from read ts
-expr_by (Keyword keyword.Not) at read ts = not_from read ts
-expr_by (Sign Dollar) at read ts = column_expr ts
-expr_by (Sign Minus) at read ts = negative_expr ts
-expr_by (Number n) at read ts = if nat_lt n 9223372036854775808 then Ok (expr.Int (pos n), ts) else Err (refusal at why.Range)
-expr_by (Text t) at read ts = Ok (expr.Text t, ts)
-expr_by (Keyword keyword.True) at read ts = Ok (expr.Flag true, ts)
-expr_by (Keyword keyword.False) at read ts = Ok (expr.Flag false, ts)
-expr_by (Cut r) at read ts = Err r
-expr_by k at read ts = Err (refused_by k at)
+expr_by k at read ts = expr_by_start (start_of k) k at read ts
 
 unfoldable pub expr_layer : Reads Expr → Reads Expr
 expr_layer read [] = Err run_out

@@ -2,6 +2,7 @@
 use Rattle.std.specs.Prelude.{ℕ, zero, suc, Bool, true, false, List, [], ◌∷◌, ◌++◌, Result, Ok, Err}
 use Rattle.pipes_token.specs.declared.refusal.Refusal.{Refusal}
 use Rattle.pipes_token.specs.declared.token.Sign.TheVariants.{OpenList, CloseList, Comma, Equal}
+use Rattle.pipes_token.specs.declared.keyword.Keyword.{Keyword as AKeyword}
 use Rattle.pipes_token.specs.declared.keyword.Keyword.TheVariants as keyword
 use Rattle.pipes_token.specs.declared.token.TokenKind.{TokenKind}
 use Rattle.pipes_token.specs.declared.token.TokenKind.TheVariants.{Sign, Keyword}
@@ -10,6 +11,8 @@ use Rattle.pipes_plan.specs.declared.expr.Expr.{Expr}
 use Rattle.pipes_plan.specs.declared.lists.Pair.{Pair}
 use Rattle.pipes_plan.specs.declared.lists.Agg.{Agg}
 use Rattle.pipes_plan.specs.declared.lists.Agg.TheVariants as agg
+use Rattle.pipes_grammar.specs.declared.start.AggStart.{AggStart}
+use Rattle.pipes_grammar.specs.declared.start.AggStart.TheVariants.{Count, Sum, Min, Max, Avg, Other}
 use Rattle.pipes_grammar.specs.Reading.{Reads, ◌>>=◌, run_out, refused_by, too_many, wanted}
 use Rattle.pipes_grammar.specs.ExprReading.{read_column, parse_expr}
 
@@ -91,17 +94,30 @@ agg_of make ts = do
   i ← read_column ts
   Ok (make i.0, i.1)
 
-abbrev pub agg_by : TokenKind → ℕ → Reads Agg
-agg_by (Keyword keyword.Count) at ts = Ok (agg.Count, ts)
-agg_by (Keyword keyword.Sum) at ts = agg_of (λ i. agg.Sum i) ts
-agg_by (Keyword keyword.Min) at ts = agg_of (λ i. agg.Min i) ts
-agg_by (Keyword keyword.Max) at ts = agg_of (λ i. agg.Max i) ts
-agg_by (Keyword keyword.Avg) at ts = agg_of (λ i. agg.Avg i) ts
-agg_by k at ts = Err (refused_by k at)
+-- how an aggregate begins
+abbrev pub agg_start_of_keyword : AKeyword → AggStart
+agg_start_of_keyword keyword.Count = Count
+agg_start_of_keyword keyword.Sum = Sum
+agg_start_of_keyword keyword.Min = Min
+agg_start_of_keyword keyword.Max = Max
+agg_start_of_keyword keyword.Avg = Avg
+agg_start_of_keyword _ = Other
+
+abbrev pub agg_start_of : TokenKind → AggStart
+agg_start_of (Keyword k) = agg_start_of_keyword k
+agg_start_of _ = Other
+
+abbrev pub agg_by : AggStart → TokenKind → ℕ → Reads Agg
+agg_by Count k at ts = Ok (agg.Count, ts)
+agg_by Sum k at ts = agg_of (λ i. agg.Sum i) ts
+agg_by Min k at ts = agg_of (λ i. agg.Min i) ts
+agg_by Max k at ts = agg_of (λ i. agg.Max i) ts
+agg_by Avg k at ts = agg_of (λ i. agg.Avg i) ts
+agg_by Other k at ts = Err (refused_by k at)
 
 unfoldable pub read_agg : Reads Agg
 read_agg [] = Err run_out
-read_agg (t ∷ ts) = agg_by t.kind t.at ts
+read_agg (t ∷ ts) = agg_by (agg_start_of t.kind) t.kind t.at ts
 
 unfoldable pub parse_exprs : Reads (List Expr)
 parse_exprs ts = filled_from parse_expr ts

@@ -2,6 +2,7 @@
 use Rattle.std.specs.Prelude.{ℕ, zero, suc, Bool, true, false, List, [], ◌∷◌, Option, Some, None, Ok, Err}
 use Rattle.pipes_token.specs.declared.refusal.TextWhy.TheVariants as why
 use Rattle.pipes_token.specs.declared.token.Sign.TheVariants.{Open, Comma}
+use Rattle.pipes_token.specs.declared.keyword.Keyword.{Keyword as AKeyword}
 use Rattle.pipes_token.specs.declared.keyword.Keyword.TheVariants as keyword
 use Rattle.pipes_token.specs.declared.token.TokenKind.{TokenKind}
 use Rattle.pipes_token.specs.declared.token.TokenKind.TheVariants.{Sign, Keyword, Name}
@@ -10,6 +11,8 @@ use Rattle.pipes_plan.specs.declared.lists.Pair.{Pair}
 use Rattle.pipes_plan.specs.declared.lists.Agg.{Agg}
 use Rattle.pipes_plan.specs.declared.plan.Plan.{Plan}
 use Rattle.pipes_plan.specs.declared.plan.Plan.TheVariants as plan
+use Rattle.pipes_grammar.specs.declared.start.PlanStart.{PlanStart}
+use Rattle.pipes_grammar.specs.declared.start.PlanStart.TheVariants.{Source, Filter, Map, Union, Join, Distinct, Group, Minus}
 use Rattle.pipes_grammar.specs.Grammar.{source_named}
 use Rattle.pipes_grammar.specs.Reading.{Reads, ◌>>=◌, run_out, refusal, refused_by, place_of, too_deep, wanted}
 use Rattle.pipes_grammar.specs.ExprReading.{is_close, parse_expr}
@@ -124,17 +127,38 @@ abbrev pub source_or : Option ℕ → ℕ → Reads Plan
 source_or (Some i) at ts = Ok (plan.Source i, ts)
 source_or None at ts = Err (refusal at why.Name)
 
+abbrev pub source_by : List (List ℕ) → TokenKind → ℕ → Reads Plan
+source_by names (Name word) at ts = source_or (source_named names word) at ts
+source_by names k at ts = Err (refused_by k at)
+
+-- how a plan begins
+abbrev pub plan_start_of_keyword : AKeyword → PlanStart
+plan_start_of_keyword keyword.Filter = Filter
+plan_start_of_keyword keyword.Map = Map
+plan_start_of_keyword keyword.Union = Union
+plan_start_of_keyword keyword.Join = Join
+plan_start_of_keyword keyword.Distinct = Distinct
+plan_start_of_keyword keyword.Group = Group
+plan_start_of_keyword keyword.Minus = Minus
+plan_start_of_keyword _ = Source
+
+abbrev pub plan_start_of : TokenKind → PlanStart
+plan_start_of (Keyword k) = plan_start_of_keyword k
+plan_start_of _ = Source
+
+abbrev pub plan_by_start : PlanStart → List (List ℕ) → TokenKind → ℕ → Reads Plan → Reads Plan
+plan_by_start Source names k at read ts = source_by names k at ts
+plan_by_start Filter names k at read ts = filter_from read ts
+plan_by_start Map names k at read ts = map_from read ts
+plan_by_start Union names k at read ts = union_from read ts
+plan_by_start Join names k at read ts = join_from read ts
+plan_by_start Distinct names k at read ts = distinct_from read ts
+plan_by_start Group names k at read ts = group_from read ts
+plan_by_start Minus names k at read ts = minus_from read ts
+
 -- the plan that begins with a token of this kind at this place
 abbrev pub plan_by : List (List ℕ) → TokenKind → ℕ → Reads Plan → Reads Plan
-plan_by names (Name word) at read ts = source_or (source_named names word) at ts
-plan_by names (Keyword keyword.Filter) at read ts = filter_from read ts
-plan_by names (Keyword keyword.Map) at read ts = map_from read ts
-plan_by names (Keyword keyword.Union) at read ts = union_from read ts
-plan_by names (Keyword keyword.Join) at read ts = join_from read ts
-plan_by names (Keyword keyword.Distinct) at read ts = distinct_from read ts
-plan_by names (Keyword keyword.Group) at read ts = group_from read ts
-plan_by names (Keyword keyword.Minus) at read ts = minus_from read ts
-plan_by names k at read ts = Err (refused_by k at)
+plan_by names k at read ts = plan_by_start (plan_start_of k) names k at read ts
 
 unfoldable pub plan_layer : List (List ℕ) → Reads Plan → Reads Plan
 plan_layer names read [] = Err run_out
