@@ -1,1 +1,9 @@
 pub mod Loops
+pub mod Turns
+pub mod Fresh
+pub mod Tokens
+pub mod ColumnLaws
+pub mod SourceLaws
+pub mod QueryLaws
+pub mod WholeLaws
+pub mod Unended
