@@ -1,1 +1,9 @@
 pub mod Entries
+pub mod TokenLists
+pub mod Readers
+pub mod Layers
+pub mod Depths
+pub mod Leaves
+pub mod Expressions
+pub mod Wholes
+pub mod WholeExprs
