@@ -37,7 +37,7 @@ close_alone : (k : TokenKind) → is_close k ≡ true → k ≡ Sign Close
 close_alone (Sign Close) e = refl
 close_alone _ e = absurd cc
 
-pub reads_close : (Begun Exprs : Type 0) (whole : ℕ) → IsReader Begun Exprs whole (ThisKind (Sign Close)) (ThisKind (Sign Close)) (wanted is_close)
+pub reads_close : (Begun Exprs : Type 0) (whole : Option ℕ) → IsReader Begun Exprs whole (ThisKind (Sign Close)) (ThisKind (Sign Close)) (wanted is_close)
 reads_close Begun Exprs whole = reads_wanted Begun Exprs whole (Sign Close) is_close refl close_alone
 
 -- ---- what stands behind the first token of an expression
@@ -54,7 +54,7 @@ ColumnIs = Then IsColumn (λ i. Nothing (expr.Col i))
 abbrev NegativeIs : Expr → List TokenKind → Type 0
 NegativeIs = Then IsNegative (λ n. Nothing (expr.Int n))
 
-module _ (Begun Exprs : Type 0) (whole : ℕ) (Is IsW : Expr → List TokenKind → Type 0) (read : Reads Expr) (next : IsReader Begun Exprs whole Is IsW read) where
+module _ (Begun Exprs : Type 0) (whole : Option ℕ) (Is IsW : Expr → List TokenKind → Type 0) (read : Reads Expr) (next : IsReader Begun Exprs whole Is IsW read) where
   reads_pair : IsReader Begun Exprs whole (PairIs Is) (PairIs IsW) (pair_from read)
   unfolding pair_from
   reads_pair =
@@ -68,12 +68,12 @@ module _ (Begun Exprs : Type 0) (whole : ℕ) (Is IsW : Expr → List TokenKind 
   unfolding not_from
   reads_not = reads_in_turn Begun Exprs whole _ _ _ _ read (λ a ts. Ok (expr.Not a, ts)) next (λ a. reads_nothing Begun Exprs whole (expr.Not a))
 
-reads_column_expr : (Begun Exprs : Type 0) (whole : ℕ) → IsReader Begun Exprs whole ColumnIs ColumnIs column_expr
+reads_column_expr : (Begun Exprs : Type 0) (whole : Option ℕ) → IsReader Begun Exprs whole ColumnIs ColumnIs column_expr
 unfolding column_expr
 reads_column_expr Begun Exprs whole =
     reads_in_turn Begun Exprs whole _ _ _ _ read_column (λ i ts. Ok (expr.Col i, ts)) (reads_column Begun Exprs whole) (λ i. reads_nothing Begun Exprs whole (expr.Col i))
 
-reads_negative_expr : (Begun Exprs : Type 0) (whole : ℕ) → IsReader Begun Exprs whole NegativeIs NegativeIs negative_expr
+reads_negative_expr : (Begun Exprs : Type 0) (whole : Option ℕ) → IsReader Begun Exprs whole NegativeIs NegativeIs negative_expr
 unfolding negative_expr
 reads_negative_expr Begun Exprs whole =
     reads_in_turn Begun Exprs whole _ _ _ _ read_negative (λ n ts. Ok (expr.Int n, ts)) (reads_negative Begun Exprs whole) (λ n. reads_nothing Begun Exprs whole (expr.Int n))
@@ -122,7 +122,7 @@ negative_level n e _ (both _ _ _ ms (leaves.number i le) end) =
 
 -- ---- one level
 
-module _ (Begun Exprs : Type 0) (whole n : ℕ) (read : Reads Expr) (next : IsReader Begun Exprs whole IsExpr (Level n) read) where
+module _ (Begun Exprs : Type 0) (whole : Option ℕ) (n : ℕ) (read : Reads Expr) (next : IsReader Begun Exprs whole IsExpr (Level n) read) where
   number_test : (i : ℕ) (b : Bool) → (b ≡ true → i < 9223372036854775808)
       → Branch Begun Exprs whole IsExpr (Level (suc n)) (Number i) (λ at ts. cond b (Ok (expr.Int (pos i), ts)) (Err (refusal at why.Range)))
   number_test i true h =

@@ -1,5 +1,5 @@
 -- Readers that go by the kind of the first token.
-use Rattle.std.proofs.Common.{◌≡◌, ℕ, Bool, true, false, cond, List, [], ◌∷◌, ◌++◌, Result, Ok, Err, refl, sym, ap, subst, ◌∙◌, ◌⊎◌, inl, inr}
+use Rattle.std.proofs.Common.{◌≡◌, ℕ, Bool, true, false, cond, Option, List, [], ◌∷◌, ◌++◌, Result, Ok, Err, refl, sym, ap, subst, ◌∙◌, ◌⊎◌, inl, inr}
 use Rattle.pipes_token.specs.declared.refusal.Refusal.{Refusal}
 use Rattle.pipes_token.specs.declared.token.TokenKind.{TokenKind}
 use Rattle.pipes_token.specs.declared.token.TokenKind.TheVariants.{Sign, Keyword, Name, Number, Text, Long, Cut, Byte, End}
@@ -30,7 +30,7 @@ nothing_is v _ _ nothing = (refl, refl)
 pub with_end : {A : Type 0} (P : A → List TokenKind → Type 0) (v x : A) (ks : List TokenKind) → Nothing v x ks → P v [] → P x ks
 with_end P v _ _ nothing is = is
 
-pub reads_nothing : {A : Type 0} (Begun Exprs : Type 0) (whole : ℕ) (v : A) → IsReader Begun Exprs whole (Nothing v) (Nothing v) (λ ts. Ok (v, ts))
+pub reads_nothing : {A : Type 0} (Begun Exprs : Type 0) (whole : Option ℕ) (v : A) → IsReader Begun Exprs whole (Nothing v) (Nothing v) (λ ts. Ok (v, ts))
 reads_nothing {A} Begun Exprs whole v = record {
   found = λ ts x rest e.
       let o = one_value v x ts rest e in
@@ -46,7 +46,7 @@ reads_nothing {A} Begun Exprs whole v = record {
 
 -- ---- the same reader for another way to say what it reads
 
-pub reads_as : {A : Type 0} (Begun Exprs : Type 0) (whole : ℕ) (Is IsW To ToW : A → List TokenKind → Type 0) (read : Reads A)
+pub reads_as : {A : Type 0} (Begun Exprs : Type 0) (whole : Option ℕ) (Is IsW To ToW : A → List TokenKind → Type 0) (read : Reads A)
     → IsReader Begun Exprs whole Is IsW read → ((x : A) (ks : List TokenKind) → Is x ks → To x ks) → ((x : A) (ks : List TokenKind) → IsW x ks → ToW x ks)
     → ((x : A) (ks : List TokenKind) → ToW x ks → IsW x ks) → ((x : A) (ks : List TokenKind) → ToW x ks → To x ks)
     → IsReader Begun Exprs whole To ToW read
@@ -78,13 +78,13 @@ reads_as Begun Exprs whole Is IsW To ToW read one to tow from wider = record {
 -- ---- by the first token
 
 -- what is read by a token of this kind: values of sentences that begin with it, or a refusal at it or behind it
-pub record Branch {A : Type 0} (Begun Exprs : Type 0) (whole : ℕ) (Is IsW : A → List TokenKind → Type 0) (k : TokenKind) (by : ℕ → Reads A) : Type 0 where
+pub record Branch {A : Type 0} (Begun Exprs : Type 0) (whole : Option ℕ) (Is IsW : A → List TokenKind → Type 0) (k : TokenKind) (by : ℕ → Reads A) : Type 0 where
   pub found : (at : ℕ) (ts : List Token) (x : A) (rest : List Token) → by at ts ≡ Ok (x, rest) → Front (λ y ls. IsW y (k ∷ ls)) x ts rest
   pub first : Begun → (at : ℕ) (ts : List Token) (r : Refusal) → by at ts ≡ Err r
       → (AtToken (token at k) r × ((other : List Token) → by at other ≡ Err r)) ⊎ Refuses Exprs whole (λ y ls. Is y (k ∷ ls)) (by at) ts r
 
 -- behind it another reader goes on
-pub goes : {A : Type 0} (Begun Exprs : Type 0) (whole : ℕ) (Is IsW To ToW : A → List TokenKind → Type 0) (k : TokenKind) (by : ℕ → Reads A)
+pub goes : {A : Type 0} (Begun Exprs : Type 0) (whole : Option ℕ) (Is IsW To ToW : A → List TokenKind → Type 0) (k : TokenKind) (by : ℕ → Reads A)
     → ((at : ℕ) → IsReader Begun Exprs whole Is IsW (by at)) → ((x : A) (ls : List TokenKind) → Is x ls → To x (k ∷ ls))
     → ((x : A) (ls : List TokenKind) → IsW x ls → ToW x (k ∷ ls)) → Branch Begun Exprs whole To ToW k by
 goes Begun Exprs whole Is IsW To ToW k by one to tow = record {
@@ -110,7 +110,7 @@ goes Begun Exprs whole Is IsW To ToW k by one to tow = record {
     })
 
 -- it is refused
-pub refuses : {A : Type 0} (Begun Exprs : Type 0) (whole : ℕ) (Is IsW : A → List TokenKind → Type 0) (k : TokenKind) (by : ℕ → Reads A) (why : ℕ → Refusal)
+pub refuses : {A : Type 0} (Begun Exprs : Type 0) (whole : Option ℕ) (Is IsW : A → List TokenKind → Type 0) (k : TokenKind) (by : ℕ → Reads A) (why : ℕ → Refusal)
     → ((at : ℕ) (ts : List Token) → by at ts ≡ Err (why at)) → ((at : ℕ) → AtToken (token at k) (why at)) → Branch Begun Exprs whole Is IsW k by
 refuses {A} Begun Exprs whole Is IsW k by why is place = record {
   found = λ at ts x rest e. absurd (no at ts x rest (sym (is at ts) ∙ e));
@@ -130,7 +130,7 @@ refuses {A} Begun Exprs whole Is IsW k by why is place = record {
     told at r e = (subst (λ (z : Refusal). AtToken (token at k) z) e (place at), λ other. is at other ∙ ap (λ (z : Refusal). Err z) e)
 
 -- it is a sentence by itself
-pub takes : {A : Type 0} (Begun Exprs : Type 0) (whole : ℕ) (Is IsW : A → List TokenKind → Type 0) (k : TokenKind) (by : ℕ → Reads A) (v : A)
+pub takes : {A : Type 0} (Begun Exprs : Type 0) (whole : Option ℕ) (Is IsW : A → List TokenKind → Type 0) (k : TokenKind) (by : ℕ → Reads A) (v : A)
     → IsW v (k ∷ []) → ((at : ℕ) (ts : List Token) → by at ts ≡ Ok (v, ts)) → Branch Begun Exprs whole Is IsW k by
 takes {A} Begun Exprs whole Is IsW k by v is given = record {
   found = λ at ts x rest e.
@@ -152,7 +152,7 @@ refused-at _ at = refl
 pub at_refused : (k : TokenKind) (at : ℕ) → AtToken (token at k) (refused_by k at)
 at_refused k at = there (refused-at k at)
 
-module _ {A : Type 0} (Begun Exprs : Type 0) (whole : ℕ) (Is IsW : A → List TokenKind → Type 0) (read : Reads A) (by : TokenKind → ℕ → Reads A)
+module _ {A : Type 0} (Begun Exprs : Type 0) (whole : Option ℕ) (Is IsW : A → List TokenKind → Type 0) (read : Reads A) (by : TokenKind → ℕ → Reads A)
     (at_end : read [] ≡ Err run_out) (at_token : (t : Token) (ts : List Token) → read (t ∷ ts) ≡ by t.kind t.at ts)
     (branch : (k : TokenKind) → Branch Begun Exprs whole Is IsW k (by k)) (some : Begun → Begins Is []) where
   pub layer_found : (ts : List Token) (x : A) (rest : List Token) → read ts ≡ Ok (x, rest) → Front IsW x ts rest
@@ -164,7 +164,7 @@ module _ {A : Type 0} (Begun Exprs : Type 0) (whole : ℕ) (Is IsW : A → List 
   layer_ends : (t : Token) (before : List Token) (u : Token) (r : Refusal) → Ends Exprs whole (by t.kind t.at) before u r → Ends Exprs whole read (t ∷ before) u r
   layer_ends t before u r (here h) = here h
   layer_ends t before u r (in_expr q outside within e d) = in_expr q (t ∷ outside) within (ap (λ (z : List Token). t ∷ z) e) d
-  layer_ends t before u r (deep e h) = deep e (λ other. at_token t (before ++ other) ∙ h other)
+  layer_ends t before u r (deep n is e h) = deep n is e (λ other. at_token t (before ++ other) ∙ h other)
 
   pub layer_first : Begun → (ts : List Token) (r : Refusal) → read ts ≡ Err r → Refuses Exprs whole Is read ts r
   layer_first b [] r e = inl (record { is_end = is_end; begins = some b })
@@ -218,7 +218,7 @@ pub data OneKind {A : Type 0} (k : TokenKind) (v : A) : A → List TokenKind →
 abbrev pub ThisKind : TokenKind → Unit {0} → List TokenKind → Type 0
 ThisKind k = OneKind k tt
 
-pub reads_wanted : (Begun Exprs : Type 0) (whole : ℕ) (k : TokenKind) (is : TokenKind → Bool) → is k ≡ true → ((j : TokenKind) → is j ≡ true → j ≡ k)
+pub reads_wanted : (Begun Exprs : Type 0) (whole : Option ℕ) (k : TokenKind) (is : TokenKind → Bool) → is k ≡ true → ((j : TokenKind) → is j ≡ true → j ≡ k)
     → IsReader Begun Exprs whole (ThisKind k) (ThisKind k) (wanted is)
 unfolding wanted
 reads_wanted Begun Exprs whole k is holds alone = record {

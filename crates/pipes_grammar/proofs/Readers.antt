@@ -1,5 +1,5 @@
 -- What is shown of a reader, and that one reader behind another has it.
-use Rattle.std.proofs.Common.{◌≡◌, ℕ, Bool, true, false, cond, List, [], ◌∷◌, ◌++◌, Result, Ok, Err, refl, sym, ap, subst, ◌∙◌, append_assoc, ◌⊎◌, inl, inr}
+use Rattle.std.proofs.Common.{◌≡◌, ℕ, Bool, true, false, cond, Option, Some, List, [], ◌∷◌, ◌++◌, Result, Ok, Err, refl, sym, ap, subst, ◌∙◌, append_assoc, ◌⊎◌, inl, inr}
 use Rattle.pipes_token.specs.declared.refusal.Refusal.{Refusal}
 use Rattle.pipes_token.specs.declared.refusal.TextWhy.TheVariants as why
 use Rattle.pipes_token.specs.declared.token.TokenKind.{TokenKind}
@@ -19,14 +19,14 @@ pub data AtToken (t : Token) (r : Refusal) : Type 0 where
   inside : t.kind ≡ Cut r → AtToken t r
 
 -- Why it stops at the token t behind the tokens before: that token, an expression that is too deep (where Exprs allows one), or the
--- whole is too deep, which begins at a place
-pub data Ends {A : Type 0} (Exprs : Type 0) (whole : ℕ) (read : Reads A) (before : List Token) (t : Token) (r : Refusal) : Type 0 where
+-- whole is too deep, which begins at a place (where it has a limit of levels)
+pub data Ends {A : Type 0} (Exprs : Type 0) (whole : Option ℕ) (read : Reads A) (before : List Token) (t : Token) (r : Refusal) : Type 0 where
   here : AtToken t r → Ends Exprs whole read before t r
   in_expr : Exprs → (outside within : List Token) → before ≡ outside ++ within → IsTooDeep IsExpr IsExprText within t r → Ends Exprs whole read before t r
-  deep : r ≡ refusal whole why.Deep → ((other : List Token) → read (before ++ other) ≡ Err (too_deep whole other)) → Ends Exprs whole read before t r
+  deep : (n : ℕ) → whole ≡ Some n → r ≡ refusal n why.Deep → ((other : List Token) → read (before ++ other) ≡ Err (too_deep n other)) → Ends Exprs whole read before t r
 
 -- a refusal at a token: what stands before it begins a sentence, and it stands whatever follows
-pub record Stops {A : Type 0} (Exprs : Type 0) (whole : ℕ) (Is : A → List TokenKind → Type 0) (read : Reads A) (ts : List Token) (r : Refusal) : Type 0 where
+pub record Stops {A : Type 0} (Exprs : Type 0) (whole : Option ℕ) (Is : A → List TokenKind → Type 0) (read : Reads A) (ts : List Token) (r : Refusal) : Type 0 where
   pub before : List Token
   pub refused : Token
   pub after : List Token
@@ -35,12 +35,12 @@ pub record Stops {A : Type 0} (Exprs : Type 0) (whole : ℕ) (Is : A → List To
   pub stands : (other : List Token) → read (before ++ (refused ∷ other)) ≡ Err r
   pub ends : Ends Exprs whole read before refused r
 
-abbrev pub Refuses : {A : Type 0} → Type 0 → ℕ → (A → List TokenKind → Type 0) → Reads A → List Token → Refusal → Type 0
+abbrev pub Refuses : {A : Type 0} → Type 0 → Option ℕ → (A → List TokenKind → Type 0) → Reads A → List Token → Refusal → Type 0
 Refuses Exprs whole Is read ts r = RunsOut Is ts r ⊎ Stops Exprs whole Is read ts r
 
 -- A reader finds fronts that are within the limits, gives each of them, and refuses at the first token with which nothing goes on,
 -- where any sentence begins (Begun).
-pub record IsReader {A : Type 0} (Begun Exprs : Type 0) (whole : ℕ) (Is Within : A → List TokenKind → Type 0) (read : Reads A) : Type 0 where
+pub record IsReader {A : Type 0} (Begun Exprs : Type 0) (whole : Option ℕ) (Is Within : A → List TokenKind → Type 0) (read : Reads A) : Type 0 where
   pub found : (ts : List Token) (x : A) (rest : List Token) → read ts ≡ Ok (x, rest) → Front Within x ts rest
   pub only : (x : A) (front rest : List Token) → Within x (kinds_of front) → read (front ++ rest) ≡ Ok (x, rest)
   pub wider : (x : A) (ks : List TokenKind) → Within x ks → Is x ks
@@ -71,21 +71,21 @@ moved Is Next x front us is (y, more, after) =
     ∙ ap (λ (z : List TokenKind). z ++ more) (sym (kinds-append front us)) in
     (y, more, subst (λ (z : List TokenKind). Then Is Next y z) e (both x y (kinds_of front) (kinds_of us ++ more) is after))
 
-ends_first : {A B : Type 0} (Exprs : Type 0) (whole : ℕ) (read : Reads A) (next : A → Reads B) (before : List Token) (t : Token) (r : Refusal)
+ends_first : {A B : Type 0} (Exprs : Type 0) (whole : Option ℕ) (read : Reads A) (next : A → Reads B) (before : List Token) (t : Token) (r : Refusal)
     → Ends Exprs whole read before t r → Ends Exprs whole (in_turn read next) before t r
 ends_first Exprs whole read next before t r (here h) = here h
 ends_first Exprs whole read next before t r (in_expr q outside within e d) = in_expr q outside within e d
-ends_first Exprs whole read next before t r (deep e h) = deep e (λ other. rw (h other) refl)
+ends_first Exprs whole read next before t r (deep n is e h) = deep n is e (λ other. rw (h other) refl)
 
-ends_next : {A B : Type 0} (Exprs : Type 0) (whole : ℕ) (read : Reads A) (next : A → Reads B) (x : A) (front before : List Token) (t : Token) (r : Refusal)
+ends_next : {A B : Type 0} (Exprs : Type 0) (whole : Option ℕ) (read : Reads A) (next : A → Reads B) (x : A) (front before : List Token) (t : Token) (r : Refusal)
     → ((rest : List Token) → read (front ++ rest) ≡ done x rest)
     → Ends Exprs whole (next x) before t r → Ends Exprs whole (in_turn read next) (front ++ before) t r
 ends_next Exprs whole read next x front before t r h (here k) = here k
 ends_next Exprs whole read next x front before t r h (in_expr q outside within e d) =
     in_expr q (front ++ outside) within (ap (λ (z : List Token). front ++ z) e ∙ sym (append_assoc front outside within)) d
-ends_next Exprs whole read next x front before t r h (deep e k) = deep e (λ other. rw (append_assoc front before other, h (before ++ other)) (k other))
+ends_next Exprs whole read next x front before t r h (deep n is e k) = deep n is e (λ other. rw (append_assoc front before other, h (before ++ other)) (k other))
 
-module _ {A B : Type 0} (Begun Exprs : Type 0) (whole : ℕ) (Is IsW : A → List TokenKind → Type 0) (Next NextW : A → B → List TokenKind → Type 0)
+module _ {A B : Type 0} (Begun Exprs : Type 0) (whole : Option ℕ) (Is IsW : A → List TokenKind → Type 0) (Next NextW : A → B → List TokenKind → Type 0)
     (read : Reads A) (next : A → Reads B) (one : IsReader Begun Exprs whole Is IsW read)
     (two : (x : A) → IsReader Begun Exprs whole (Next x) (NextW x) (next x)) where
   found_both : (ts : List Token) (y : B) (rest : List Token) (q : Result (A × List Token) Refusal) → read ts ≡ q → (q >>= λ x. next x.0 x.1) ≡ Ok (y, rest)

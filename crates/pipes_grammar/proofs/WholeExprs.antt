@@ -1,5 +1,5 @@
 -- The reader of a whole expression.
-use Rattle.std.proofs.Common.{◌≡◌, ◌≤◌, ◌+◌, ℕ, zero, suc, pos, ◌-ℤ◌, List, [], ◌∷◌, ◌++◌, Result, Ok, Err, refl, arith, ◌⊎◌, inl, inr}
+use Rattle.std.proofs.Common.{◌≡◌, ◌≤◌, ◌+◌, ℕ, zero, suc, pos, ◌-ℤ◌, Option, Some, List, [], ◌∷◌, ◌++◌, Result, Ok, Err, refl, arith, ◌⊎◌, inl, inr}
 use Rattle.pipes_token.specs.declared.refusal.Refusal.{Refusal}
 use Rattle.pipes_token.specs.declared.token.TokenKind.{TokenKind}
 use Rattle.pipes_token.specs.declared.token.Token.{Token}
@@ -32,15 +32,15 @@ some_level _ _ (pair k o a b ks ls is-o is-a is-b) = omega (arith, expr_depth-jo
 no_level : (e : Expr) (ks : List TokenKind) → Level 0 e ks → ⊥
 no_level e ks is = omega (arith, some_level e ks is.spells, is.depth)
 
-reads_levels : (Begun Exprs : Type 0) (whole n : ℕ) → IsReader Begun Exprs whole IsExpr (Level n) (expr_within n whole)
+reads_levels : (Begun Exprs : Type 0) (whole n : ℕ) → IsReader Begun Exprs (Some whole) IsExpr (Level n) (expr_within n whole)
 unfolding expr_within
 reads_levels Begun Exprs whole zero = reads_no_level Begun Exprs whole IsExpr (Level 0) no_level (λ b. some_expr)
-reads_levels Begun Exprs whole (suc n) = reads_level Begun Exprs whole n (expr_within n whole) (reads_levels Begun Exprs whole n)
+reads_levels Begun Exprs whole (suc n) = reads_level Begun Exprs (Some whole) n (expr_within n whole) (reads_levels Begun Exprs whole n)
 
 -- an expression by itself has no other in it
-reads_whole : (whole : ℕ) → IsReader (Unit {0}) ⊥ whole IsExpr IsExprText (expr_within 32 whole)
+reads_whole : (whole : ℕ) → IsReader (Unit {0}) ⊥ (Some whole) IsExpr IsExprText (expr_within 32 whole)
 reads_whole whole =
-    reads_as (Unit {0}) ⊥ whole IsExpr (Level 32) IsExpr IsExprText (expr_within 32 whole) (reads_levels (Unit {0}) ⊥ whole 32) (λ e ks is. is)
+    reads_as (Unit {0}) ⊥ (Some whole) IsExpr (Level 32) IsExpr IsExprText (expr_within 32 whole) (reads_levels (Unit {0}) ⊥ whole 32) (λ e ks is. is)
     (λ e ks is. record { spells = is.spells; depth = is.depth }) (λ e ks is. record { spells = is.spells; depth = is.depth }) (λ e ks is. is.spells)
 
 -- ---- the laws
@@ -83,7 +83,7 @@ expr_refused Memory ts e = tt
 
 -- ---- an expression inside something else
 
-pub reads_expr : (Begun : Type 0) (whole : ℕ) → IsReader Begun (Unit {0}) whole IsExpr IsExprText parse_expr
+pub reads_expr : (Begun : Type 0) (whole : Option ℕ) → IsReader Begun (Unit {0}) whole IsExpr IsExprText parse_expr
 reads_expr Begun whole = record {
   found = expr_found;
   only = expr_only;

@@ -1,5 +1,5 @@
 -- Readers with a limit of levels, from the first token of a whole on.
-use Rattle.std.proofs.Common.{◌≡◌, ℕ, List, [], ◌∷◌, ◌++◌, Result, Ok, Err, refl, sym, ap, subst, ◌∙◌, append_assoc, ◌⊎◌, inl, inr}
+use Rattle.std.proofs.Common.{◌≡◌, ℕ, Option, Some, List, [], ◌∷◌, ◌++◌, Result, Ok, Err, refl, sym, ap, subst, ◌∙◌, append_assoc, ◌⊎◌, inl, inr}
 use Rattle.std.proofs.lemmas.List.{append-nil}
 use Rattle.pipes_token.specs.declared.refusal.Refusal.{Refusal}
 use Rattle.pipes_token.specs.declared.refusal.TextWhy.TheVariants as why
@@ -17,7 +17,7 @@ use Rattle.pipes_grammar.proofs.Layers.{token, at_refused}
 -- ---- where no level is left
 
 deep_stops : {A : Type 0} (Exprs : Type 0) (whole : ℕ) (Is : A → List TokenKind → Type 0) (k : TokenKind) (at : ℕ) (ts : List Token) (r : Refusal)
-    → Begins Is [] → refused_as (refusal whole why.Deep) k at ≡ r → Stops Exprs whole Is (λ us. Err (too_deep whole us)) (token at k ∷ ts) r
+    → Begins Is [] → refused_as (refusal whole why.Deep) k at ≡ r → Stops Exprs (Some whole) Is (λ us. Err (too_deep whole us)) (token at k ∷ ts) r
 unfolding too_deep
 deep_stops {A} Exprs whole Is k at ts r some e = record {
   before = [];
@@ -32,13 +32,13 @@ deep_stops {A} Exprs whole Is k at ts r some e = record {
     read : Reads A
     read us = Err (too_deep whole us)
 
-    ends : (j : TokenKind) (d : Refusal) → refused_as (refusal whole why.Deep) j at ≡ d → Ends Exprs whole read [] (token at j) d
+    ends : (j : TokenKind) (d : Refusal) → refused_as (refusal whole why.Deep) j at ≡ d → Ends Exprs (Some whole) read [] (token at j) d
     ends Byte d h = here (subst (λ (z : Refusal). AtToken (token at Byte) z) h (at_refused Byte at))
     ends End d h = here (subst (λ (z : Refusal). AtToken (token at End) z) h (at_refused End at))
-    ends _ d h = deep (sym h) (λ other. refl)
+    ends _ d h = deep whole refl (sym h) (λ other. refl)
 
 pub reads_no_level : {A : Type 0} (Begun Exprs : Type 0) (whole : ℕ) (Is IsW : A → List TokenKind → Type 0) → ((x : A) (ks : List TokenKind) → IsW x ks → ⊥)
-    → (Begun → Begins Is []) → IsReader Begun Exprs whole Is IsW (λ ts. Err (too_deep whole ts))
+    → (Begun → Begins Is []) → IsReader Begun Exprs (Some whole) Is IsW (λ ts. Err (too_deep whole ts))
 unfolding too_deep
 reads_no_level {A} Begun Exprs whole Is IsW bar some = record {
   found = λ ts x rest e. absurd cc;
@@ -54,7 +54,7 @@ reads_no_level {A} Begun Exprs whole Is IsW bar some = record {
     same : (ts : List Token) (r : Refusal) → failing (too_deep whole ts) ≡ failing r → too_deep whole ts ≡ r
     same ts r e = cc
 
-    stops : Begun → (ts : List Token) (r : Refusal) → too_deep whole ts ≡ r → Refuses Exprs whole Is (λ us. Err (too_deep whole us)) ts r
+    stops : Begun → (ts : List Token) (r : Refusal) → too_deep whole ts ≡ r → Refuses Exprs (Some whole) Is (λ us. Err (too_deep whole us)) ts r
     stops b [] r e = inl (record { is_end = sym e; begins = some b })
     stops b (t ∷ ts) r e = inr (deep_stops Exprs whole Is t.kind t.at ts r (some b) e)
 
@@ -71,7 +71,7 @@ place-before [] t one other = refl
 place-before (u ∷ before) t one other = refl
 
 module _ {A : Type 0} (Begun Exprs : Type 0) (Is IsW : A → List TokenKind → Type 0) (within : ℕ → Reads A)
-    (reads : (whole : ℕ) → IsReader Begun Exprs whole Is IsW (within whole)) where
+    (reads : (whole : ℕ) → IsReader Begun Exprs (Some whole) Is IsW (within whole)) where
   abbrev pub parse : Reads A
   parse ts = within (place_of ts) ts
 
@@ -93,7 +93,7 @@ module _ {A : Type 0} (Begun Exprs : Type 0) (Is IsW : A → List TokenKind → 
   pub whole_first : Begun → (ts : List Token) (r : Refusal) → parse ts ≡ Err r → RunsOut Is ts r ⊎ FirstPlace Is IsW (WholePlace Exprs Is IsW) parse ts r
   whole_first b ts r e = told ((reads (place_of ts)).first b ts r e)
     where
-      told : Refuses Exprs (place_of ts) Is (within (place_of ts)) ts r → RunsOut Is ts r ⊎ FirstPlace Is IsW (WholePlace Exprs Is IsW) parse ts r
+      told : Refuses Exprs (Some (place_of ts)) Is (within (place_of ts)) ts r → RunsOut Is ts r ⊎ FirstPlace Is IsW (WholePlace Exprs Is IsW) parse ts r
       told (inl out) = inl out
       told (inr s) = inr (record {
         before = s.before;
@@ -110,14 +110,17 @@ module _ {A : Type 0} (Begun Exprs : Type 0) (Is IsW : A → List TokenKind → 
           starts : (other : List Token) → place_of (s.before ++ (s.refused ∷ other)) ≡ place_of ts
           starts other = place-before s.before s.refused other s.after ∙ ap place_of (sym s.parts)
 
+          same : (n : ℕ) → Some (place_of ts) ≡ Some n → place_of ts ≡ n
+          same n e = cc
+
           place : (before : List Token) (t : Token) → place_of (before ++ (t ∷ [])) ≡ place_of ts → Begins Is (kinds_of before)
-              → Ends Exprs (place_of ts) (within (place_of ts)) before t r → WholePlace Exprs Is IsW before t r
+              → Ends Exprs (Some (place_of ts)) (within (place_of ts)) before t r → WholePlace Exprs Is IsW before t r
           place before t start begins (here h) = on_token h
           place before t start begins (in_expr q outside inner parts d) = in_inner q outside inner parts d
-          place before t start begins (deep is h) = in_whole (record {
-            is_deep = is ∙ ap (λ (n : ℕ). refusal n why.Deep) (sym start);
+          place before t start begins (deep n whole is h) = in_whole (record {
+            is_deep = is ∙ ap (λ (m : ℕ). refusal m why.Deep) (sym (same n whole) ∙ sym start);
             begins = begins;
-            none = barred (place_of ts) before (λ other. too_deep (place_of ts) other) h;
+            none = barred (place_of ts) before (λ other. too_deep n other) h;
           })
 
   pub whole_found : (ts : List Token) (x : A) (rest : List Token) → parse ts ≡ Ok (x, rest) → Front IsW x ts rest
