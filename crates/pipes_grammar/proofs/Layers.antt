@@ -23,7 +23,7 @@ one_value {A} x y ts us e =
 pub data Nothing {A : Type 0} (v : A) : A → List TokenKind → Type 0 where
   nothing : Nothing v v []
 
-nothing_is : {A : Type 0} (v x : A) (ks : List TokenKind) → Nothing v x ks → (v ≡ x) × (ks ≡ [])
+pub nothing_is : {A : Type 0} (v x : A) (ks : List TokenKind) → Nothing v x ks → (v ≡ x) × (ks ≡ [])
 nothing_is v _ _ nothing = (refl, refl)
 
 -- what holds of that value without a token holds of what is read

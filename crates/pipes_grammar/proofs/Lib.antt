@@ -7,3 +7,4 @@ pub mod Leaves
 pub mod Expressions
 pub mod Wholes
 pub mod WholeExprs
+pub mod ListReaders
