@@ -8,3 +8,5 @@ pub mod Expressions
 pub mod Wholes
 pub mod WholeExprs
 pub mod ListReaders
+pub mod EntryReaders
+pub mod NodeReaders

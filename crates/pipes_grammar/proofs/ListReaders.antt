@@ -1,5 +1,5 @@
 -- Readers of lists in brackets.
-use Rattle.std.proofs.Common.{◌≡◌, ◌≤◌, ◌+◌, ℕ, zero, suc, Bool, true, false, Option, None, List, [], ◌∷◌, ◌++◌, length, Result, Ok, Err, refl, sym, ap, subst, ◌∙◌, append_assoc, arith, ◌⊎◌, inl, inr}
+use Rattle.std.proofs.Common.{◌≡◌, ◌≤◌, ◌+◌, ℕ, zero, suc, Bool, true, false, Option, Some, None, List, [], ◌∷◌, ◌++◌, length, Result, Ok, Err, refl, sym, ap, subst, ◌∙◌, append_assoc, arith, ◌⊎◌, inl, inr}
 use Rattle.std.proofs.lemmas.List.{append-nil}
 use Rattle.pipes_token.specs.declared.refusal.Refusal.{Refusal}
 use Rattle.pipes_token.specs.declared.refusal.TextWhy.TheVariants as why
@@ -12,7 +12,7 @@ use Rattle.pipes_grammar.specs.Reading.{Reads, ◌>>=◌, kinds_of, Front, done,
 use Rattle.pipes_grammar.specs.ListReading.{is_open_list, goes_on_by, read_goes_on, step_from, behind, followed, entries_within, filled_from, list_by, entries_from, list_from}
 use Rattle.pipes_grammar.specs.Places.{Begins, RunsOut}
 use Rattle.pipes_grammar.proofs.TokenLists.{uncons, none}
-use Rattle.pipes_grammar.proofs.Readers.{AtToken, there, here, Ends, in_expr, deep, Stops, Refuses, IsReader, Then, both, in_turn, reads_in_turn}
+use Rattle.pipes_grammar.proofs.Readers.{AtToken, there, here, Ends, in_expr, deep, Stops, Refuses, IsReader, Then, both, in_turn, reads_in_turn, reads_anywhere}
 use Rattle.pipes_grammar.proofs.Layers.{token, one_value, Nothing, nothing, nothing_is, with_end, reads_nothing, reads_as, ThisKind, one, reads_wanted, Branch, takes, refuses, at_refused, layer_found, layer_first, layer_one}
 
 -- ---- a comma, or the end of the list
@@ -210,3 +210,217 @@ module _ {A : Type 0} (Begun Exprs : Type 0) (whole : Option ℕ) (Is IsW : A �
       (reads_entries_from Begun Exprs whole Is IsW read entry (Closed Is) (ClosedWithin IsW n) (entries_within read n) (reads_entries n))
       (λ xs ks is. spelled_closed Is xs ks is) (λ xs ks is. spelled_within IsW n xs ks is) (λ xs ks is. spells_entries IsW n xs ks is.spells is.count)
       (λ xs ks is. closed_wider IsW Is entry.wider xs ks is.spells)
+
+-- ---- whole lists
+
+open_alone : (k : TokenKind) → is_open_list k ≡ true → k ≡ Sign OpenList
+open_alone (Sign OpenList) e = refl
+open_alone _ e = absurd cc
+
+reads_open_list : (Begun Exprs : Type 0) (whole : Option ℕ) → IsReader Begun Exprs whole (ThisKind (Sign OpenList)) (ThisKind (Sign OpenList)) (wanted is_open_list)
+reads_open_list Begun Exprs whole = reads_wanted Begun Exprs whole (Sign OpenList) is_open_list refl open_alone
+
+pub record FilledWithin {A : Type 0} (IsEntry : A → List TokenKind → Type 0) (xs : List A) (ks : List TokenKind) : Type 0 where
+  pub spells : IsFilled IsEntry xs ks
+  pub count : length xs ≤ 32
+
+filled_is : {A : Type 0} (E : A → List TokenKind → Type 0) (xs : List A) (ks : List TokenKind) → Then (ThisKind (Sign OpenList)) (λ x. Closed E) xs ks → IsFilled E xs ks
+filled_is E _ _ (both _ _ _ _ one (closed xs ks all)) = entries xs ks all
+
+filled_within : {A : Type 0} (E : A → List TokenKind → Type 0) (xs : List A) (ks : List TokenKind) → Then (ThisKind (Sign OpenList)) (λ x. ClosedWithin E 32) xs ks
+    → FilledWithin E xs ks
+filled_within E xs _ (both x _ _ ls one is) = record { spells = filled_is E xs (Sign OpenList ∷ ls) (both x xs (Sign OpenList ∷ []) ls one is.spells); count = is.count }
+
+spells_filled : {A : Type 0} (E : A → List TokenKind → Type 0) (xs : List A) (ks : List TokenKind) → IsFilled E xs ks → length xs ≤ 32
+    → Then (ThisKind (Sign OpenList)) (λ x. ClosedWithin E 32) xs ks
+spells_filled E _ _ (entries xs ks all) le =
+    both tt xs (Sign OpenList ∷ []) (ks ++ (Sign CloseList ∷ [])) one (record { spells = closed xs ks all; count = le })
+
+filled_wider : {A : Type 0} (E F : A → List TokenKind → Type 0) → ((x : A) (ks : List TokenKind) → E x ks → F x ks) → (xs : List A) (ks : List TokenKind)
+    → IsFilled E xs ks → IsFilled F xs ks
+filled_wider E F wider _ _ (entries xs ks all) = entries xs ks (entries_wider E F wider xs ks all)
+
+pub reads_filled : {A : Type 0} (Begun Exprs : Type 0) (whole : Option ℕ) (Is IsW : A → List TokenKind → Type 0) (read : Reads A)
+    → IsReader Begun Exprs whole Is IsW read → IsReader Begun Exprs whole (IsFilled Is) (FilledWithin IsW) (filled_from read)
+unfolding filled_from
+reads_filled Begun Exprs whole Is IsW read entry =
+    reads_as Begun Exprs whole (Then (ThisKind (Sign OpenList)) (λ x. Closed Is)) (Then (ThisKind (Sign OpenList)) (λ x. ClosedWithin IsW 32)) (IsFilled Is) (FilledWithin IsW)
+    (filled_from read)
+    (reads_in_turn Begun Exprs whole (ThisKind (Sign OpenList)) (ThisKind (Sign OpenList)) (λ x. Closed Is) (λ x. ClosedWithin IsW 32) (wanted is_open_list)
+      (λ x us. entries_within read 32 us) (reads_open_list Begun Exprs whole) (λ x. reads_entries Begun Exprs whole Is IsW read entry 32))
+    (λ xs ks is. filled_is Is xs ks is) (λ xs ks is. filled_within IsW xs ks is) (λ xs ks is. spells_filled IsW xs ks is.spells is.count)
+    (λ xs ks is. filled_wider IsW Is entry.wider xs ks is.spells)
+
+-- ---- lists that may be empty
+
+-- what begins an entry isn't the end of the list
+pub record Starts (ks : List TokenKind) : Type 0 where
+  pub head : TokenKind
+  pub tail : List TokenKind
+  pub parts : ks ≡ head ∷ tail
+  pub other : head ≡ Sign CloseList → ⊥
+
+-- behind `[`
+data Rest {A : Type 0} (IsEntry : A → List TokenKind → Type 0) : List A → List TokenKind → Type 0 where
+  no_entry : Rest IsEntry [] (Sign CloseList ∷ [])
+  some_entries : (xs : List A) (ks : List TokenKind) → Closed IsEntry xs ks → Rest IsEntry xs ks
+
+record RestWithin {A : Type 0} (IsEntry : A → List TokenKind → Type 0) (xs : List A) (ks : List TokenKind) : Type 0 where
+  pub spells : Rest IsEntry xs ks
+  pub count : length xs ≤ 32
+
+starts_more : (ks ls : List TokenKind) → Starts ks → Starts (ks ++ ls)
+starts_more ks ls s = record { head = s.head; tail = s.tail ++ ls; parts = ap (λ (z : List TokenKind). z ++ ls) s.parts; other = s.other }
+
+starts_closed : {A : Type 0} (E : A → List TokenKind → Type 0) → ((x : A) (ks : List TokenKind) → E x ks → Starts ks) → (xs : List A) (ks : List TokenKind) → Closed E xs ks → Starts ks
+starts_closed E starts _ _ (closed _ _ (last x ks is)) = starts_more ks (Sign CloseList ∷ []) (starts x ks is)
+starts_closed E starts _ _ (closed _ _ (more x xs ks ls is all)) = starts_more (ks ++ (Sign Comma ∷ ls)) (Sign CloseList ∷ []) (starts_more ks (Sign Comma ∷ ls) (starts x ks is))
+
+decide : (k : TokenKind) → (k ≡ Sign CloseList) ⊎ (k ≡ Sign CloseList → ⊥)
+decide (Sign CloseList) = inl refl
+decide _ = inr (λ e. cc)
+
+rest_wider : {A : Type 0} (E F : A → List TokenKind → Type 0) → ((x : A) (ks : List TokenKind) → E x ks → F x ks) → (xs : List A) (ks : List TokenKind)
+    → Rest E xs ks → Rest F xs ks
+rest_wider E F wider _ _ no_entry = no_entry
+rest_wider E F wider _ _ (some_entries xs ks is) = some_entries xs ks (closed_wider E F wider xs ks is)
+
+-- the same first token, whatever follows
+same_head : (t : Token) (ts before : List Token) (u : Token) (after other : List Token) → t ∷ ts ≡ before ++ (u ∷ after) → (us : List Token) × (before ++ (u ∷ other) ≡ t ∷ us)
+same_head t ts [] u after other e = (other, cc)
+same_head t ts (v ∷ before) u after other e = (before ++ (u ∷ other), cc)
+
+module _ {A : Type 0} (Begun Exprs : Type 0) (Is IsW : A → List TokenKind → Type 0) (read : Reads A) (entry : IsReader Begun Exprs None Is IsW read)
+    (starts : (x : A) (ks : List TokenKind) → IsW x ks → Starts ks) where
+  all : IsReader Begun Exprs None (Closed Is) (ClosedWithin IsW 32) (entries_within read 32)
+  all = reads_entries Begun Exprs None Is IsW read entry 32
+
+  at_close : (t : Token) (us : List Token) → t.kind ≡ Sign CloseList → entries_from read (t ∷ us) ≡ Ok ([], us)
+  unfolding entries_from
+  at_close t us e = ap (λ (k : TokenKind). list_by k t read us) e
+
+  at_entry : (t : Token) (us : List Token) → (t.kind ≡ Sign CloseList → ⊥) → entries_from read (t ∷ us) ≡ entries_within read 32 (t ∷ us)
+  unfolding entries_from
+  at_entry t us bar = by t.kind bar
+    where
+      by : (k : TokenKind) → (k ≡ Sign CloseList → ⊥) → list_by k t read us ≡ entries_within read 32 (t ∷ us)
+      by (Sign CloseList) h = absurd (h refl)
+      by _ h = refl
+
+  rest_found : (ts : List Token) (xs : List A) (rest : List Token) → entries_from read ts ≡ Ok (xs, rest) → Front (RestWithin IsW) xs ts rest
+  unfolding entries_from
+  rest_found [] xs rest e = absurd cc
+  rest_found (t ∷ ts) xs rest e = elim (decide t.kind) [
+    | inl is ↦
+      let o = one_value [] xs ts rest (sym (at_close t ts is) ∙ e) in
+      (t ∷ [], subst (λ (k : TokenKind). RestWithin IsW xs (k ∷ [])) (sym is) (subst (λ (z : List A). RestWithin IsW z (Sign CloseList ∷ [])) o.0 nothing_there),
+      ap (λ (z : List Token). t ∷ z) o.1)
+    | inr bar ↦
+      let f = all.found (t ∷ ts) xs rest (sym (at_entry t ts bar) ∙ e) in
+      (f.0, record { spells = some_entries xs (kinds_of f.0) f.1.spells; count = f.1.count }, f.2)
+  ]
+    where
+      nothing_there : RestWithin IsW [] (Sign CloseList ∷ [])
+      nothing_there = record { spells = no_entry; count = omega arith }
+
+  rest_only : (xs : List A) (ks : List TokenKind) → Rest IsW xs ks → length xs ≤ 32 → (front rest : List Token) → ks ≡ kinds_of front
+      → entries_from read (front ++ rest) ≡ Ok (xs, rest)
+  rest_only _ _ no_entry le front rest e =
+      let c = uncons (Sign CloseList) [] front e in
+      ap (λ (z : List Token). entries_from read (z ++ rest)) c.parts ∙ at_close c.head (c.tail ++ rest) c.head_kind
+      ∙ ap (λ (z : List Token). done [] (z ++ rest)) (none c.tail c.tail_kinds)
+  rest_only _ _ (some_entries xs ks is) le front rest e =
+      let s = starts_closed IsW starts xs ks is in
+      let c = uncons s.head s.tail front (sym s.parts ∙ e) in
+      let given = all.only xs front rest (record { spells = subst (λ (z : List TokenKind). Closed IsW xs z) e is; count = le }) in
+      ap (λ (z : List Token). entries_from read (z ++ rest)) c.parts ∙ at_entry c.head (c.tail ++ rest) (λ h. s.other (sym c.head_kind ∙ h))
+      ∙ ap (λ (z : List Token). entries_within read 32 (z ++ rest)) (sym c.parts) ∙ given
+
+  some_rest : Begins (Rest Is) []
+  some_rest = ([], Sign CloseList ∷ [], no_entry)
+
+  rest_begins : (ks : List TokenKind) → Begins (Closed Is) ks → Begins (Rest Is) ks
+  rest_begins ks (xs, after, is) = (xs, after, some_entries xs (ks ++ after) is)
+
+  rest_ends : (before : List Token) (t : Token) (r : Refusal) → Ends Exprs None (entries_within read 32) before t r → Ends Exprs None (entries_from read) before t r
+  rest_ends before t r (here h) = here h
+  rest_ends before t r (in_expr q outside within e d) = in_expr q outside within e d
+  rest_ends before t r (deep n is e h) = absurd (apart n is)
+    where
+      apart : (n : ℕ) → None ≡ Some n → ⊥
+      apart n e = cc
+
+  rest_first : Begun → (ts : List Token) (r : Refusal) → entries_from read ts ≡ Err r → Refuses Exprs None (Rest Is) (entries_from read) ts r
+  unfolding entries_from
+  rest_first b [] r e = inl (record { is_end = is_end; begins = some_rest })
+    where
+      is_end : r ≡ run_out
+      is_end = cc
+  rest_first b (t ∷ ts) r e = elim (decide t.kind) [
+    | inl is ↦ absurd (apart ts (sym (at_close t ts is) ∙ e))
+    | inr bar ↦ told bar (all.first b (t ∷ ts) r (sym (at_entry t ts bar) ∙ e))
+  ]
+    where
+      apart : (us : List Token) → done {A = List A} [] us ≡ Err r → ⊥
+      apart us e = cc
+
+      told : (t.kind ≡ Sign CloseList → ⊥) → Refuses Exprs None (Closed Is) (entries_within read 32) (t ∷ ts) r → Refuses Exprs None (Rest Is) (entries_from read) (t ∷ ts) r
+      told bar (inl out) = inl (record { is_end = out.is_end; begins = rest_begins (kinds_of (t ∷ ts)) out.begins })
+      told bar (inr s) = inr (record {
+        before = s.before;
+        refused = s.refused;
+        after = s.after;
+        parts = s.parts;
+        begins = rest_begins (kinds_of s.before) s.begins;
+        stands = λ other.
+            let h = same_head t ts s.before s.refused s.after other s.parts in
+            ap (λ (z : List Token). entries_from read z) h.1 ∙ at_entry t h.0 bar ∙ ap (λ (z : List Token). entries_within read 32 z) (sym h.1) ∙ s.stands other;
+        ends = rest_ends s.before s.refused r s.ends;
+      })
+
+  reads_rest : IsReader Begun Exprs None (Rest Is) (RestWithin IsW) (entries_from read)
+  reads_rest = record {
+    found = rest_found;
+    only = λ xs front rest is. rest_only xs (kinds_of front) is.spells is.count front rest refl;
+    wider = λ xs ks is. rest_wider IsW Is entry.wider xs ks is.spells;
+    some = λ b. some_rest;
+    first = rest_first;
+  }
+
+pub record ListWithin {A : Type 0} (IsEntry : A → List TokenKind → Type 0) (xs : List A) (ks : List TokenKind) : Type 0 where
+  pub spells : IsList IsEntry xs ks
+  pub count : length xs ≤ 32
+
+list_is : {A : Type 0} (E : A → List TokenKind → Type 0) (xs : List A) (ks : List TokenKind) → Then (ThisKind (Sign OpenList)) (λ x. Rest E) xs ks → IsList E xs ks
+list_is E _ _ (both _ _ _ _ one no_entry) = empty
+list_is E _ _ (both _ _ _ _ one (some_entries _ _ (closed xs ks all))) = filled xs (Sign OpenList ∷ (ks ++ (Sign CloseList ∷ []))) (entries xs ks all)
+
+list_within : {A : Type 0} (E : A → List TokenKind → Type 0) (xs : List A) (ks : List TokenKind) → Then (ThisKind (Sign OpenList)) (λ x. RestWithin E) xs ks → ListWithin E xs ks
+list_within E xs _ (both x _ _ ls one is) = record { spells = list_is E xs (Sign OpenList ∷ ls) (both x xs (Sign OpenList ∷ []) ls one is.spells); count = is.count }
+
+spells_list : {A : Type 0} (E : A → List TokenKind → Type 0) (xs : List A) (ks : List TokenKind) → IsList E xs ks → length xs ≤ 32
+    → Then (ThisKind (Sign OpenList)) (λ x. RestWithin E) xs ks
+spells_list E _ _ empty le = both tt [] (Sign OpenList ∷ []) (Sign CloseList ∷ []) one (record { spells = no_entry; count = le })
+spells_list E _ _ (filled _ _ (entries xs ks all)) le =
+    both tt xs (Sign OpenList ∷ []) (ks ++ (Sign CloseList ∷ [])) one
+    (record { spells = some_entries xs (ks ++ (Sign CloseList ∷ [])) (closed xs ks all); count = le })
+
+list_wider : {A : Type 0} (E F : A → List TokenKind → Type 0) → ((x : A) (ks : List TokenKind) → E x ks → F x ks) → (xs : List A) (ks : List TokenKind)
+    → IsList E xs ks → IsList F xs ks
+list_wider E F wider _ _ empty = empty
+list_wider E F wider _ _ (filled xs ks is) = filled xs ks (filled_wider E F wider xs ks is)
+
+reads_list_alone : {A : Type 0} (Begun Exprs : Type 0) (Is IsW : A → List TokenKind → Type 0) (read : Reads A) → IsReader Begun Exprs None Is IsW read
+    → ((x : A) (ks : List TokenKind) → IsW x ks → Starts ks) → IsReader Begun Exprs None (IsList Is) (ListWithin IsW) (list_from read)
+unfolding list_from
+reads_list_alone Begun Exprs Is IsW read entry starts =
+    reads_as Begun Exprs None (Then (ThisKind (Sign OpenList)) (λ x. Rest Is)) (Then (ThisKind (Sign OpenList)) (λ x. RestWithin IsW)) (IsList Is) (ListWithin IsW) (list_from read)
+    (reads_in_turn Begun Exprs None (ThisKind (Sign OpenList)) (ThisKind (Sign OpenList)) (λ x. Rest Is) (λ x. RestWithin IsW) (wanted is_open_list) (λ x us. entries_from read us)
+      (reads_open_list Begun Exprs None) (λ x. reads_rest Begun Exprs Is IsW read entry starts))
+    (λ xs ks is. list_is Is xs ks is) (λ xs ks is. list_within IsW xs ks is) (λ xs ks is. spells_list IsW xs ks is.spells is.count)
+    (λ xs ks is. list_wider IsW Is entry.wider xs ks is.spells)
+
+pub reads_list : {A : Type 0} (Begun Exprs : Type 0) (whole : Option ℕ) (Is IsW : A → List TokenKind → Type 0) (read : Reads A) → IsReader Begun Exprs None Is IsW read
+    → ((x : A) (ks : List TokenKind) → IsW x ks → Starts ks) → IsReader Begun Exprs whole (IsList Is) (ListWithin IsW) (list_from read)
+reads_list Begun Exprs whole Is IsW read entry starts =
+    reads_anywhere Begun Exprs whole (IsList Is) (ListWithin IsW) (list_from read) (reads_list_alone Begun Exprs Is IsW read entry starts)

@@ -1,5 +1,5 @@
 -- What is shown of a reader, and that one reader behind another has it.
-use Rattle.std.proofs.Common.{◌≡◌, ℕ, Bool, true, false, cond, Option, Some, List, [], ◌∷◌, ◌++◌, Result, Ok, Err, refl, sym, ap, subst, ◌∙◌, append_assoc, ◌⊎◌, inl, inr}
+use Rattle.std.proofs.Common.{◌≡◌, ℕ, Bool, true, false, cond, Option, Some, None, List, [], ◌∷◌, ◌++◌, Result, Ok, Err, refl, sym, ap, subst, ◌∙◌, append_assoc, ◌⊎◌, inl, inr}
 use Rattle.pipes_token.specs.declared.refusal.Refusal.{Refusal}
 use Rattle.pipes_token.specs.declared.refusal.TextWhy.TheVariants as why
 use Rattle.pipes_token.specs.declared.token.TokenKind.{TokenKind}
@@ -155,3 +155,34 @@ module _ {A B : Type 0} (Begun Exprs : Type 0) (whole : Option ℕ) (Is IsW : A 
     some = some_both;
     first = λ b ts r e. first_by b ts r (read ts) refl e;
   }
+
+-- a reader without a limit of levels stands in any whole
+pub reads_anywhere : {A : Type 0} (Begun Exprs : Type 0) (whole : Option ℕ) (Is IsW : A → List TokenKind → Type 0) (read : Reads A)
+    → IsReader Begun Exprs None Is IsW read → IsReader Begun Exprs whole Is IsW read
+reads_anywhere Begun Exprs whole Is IsW read one = record {
+  found = one.found;
+  only = one.only;
+  wider = one.wider;
+  some = one.some;
+  first = λ b ts r e. told ts r (one.first b ts r e);
+}
+  where
+    apart : (n : ℕ) → None ≡ Some n → ⊥
+    apart n e = cc
+
+    ends : (before : List Token) (t : Token) (r : Refusal) → Ends Exprs None read before t r → Ends Exprs whole read before t r
+    ends before t r (here h) = here h
+    ends before t r (in_expr q outside within e d) = in_expr q outside within e d
+    ends before t r (deep n is e h) = absurd (apart n is)
+
+    told : (ts : List Token) (r : Refusal) → Refuses Exprs None Is read ts r → Refuses Exprs whole Is read ts r
+    told ts r (inl out) = inl out
+    told ts r (inr s) = inr (record {
+      before = s.before;
+      refused = s.refused;
+      after = s.after;
+      parts = s.parts;
+      begins = s.begins;
+      stands = s.stands;
+      ends = ends s.before s.refused r s.ends;
+    })
