@@ -90,7 +90,7 @@ reads_pair_at Begun Exprs whole =
     reads_in_turn Begun Exprs whole _ _ _ _ read_column (λ i. in_turn (wanted is_equal) (λ x. in_turn read_column (λ j ts. Ok (record { left = i; right = j }, ts))))
     (reads_column Begun Exprs whole)
     (λ i. reads_in_turn Begun Exprs whole _ _ _ _ (wanted is_equal) (λ x. in_turn read_column (λ j ts. Ok (record { left = i; right = j }, ts)))
-      (reads_wanted Begun Exprs whole (Sign Equal) is_equal refl equal_alone)
+    (reads_wanted Begun Exprs whole (Sign Equal) is_equal refl equal_alone)
     (λ x. reads_in_turn Begun Exprs whole _ _ _ _ read_column (λ j ts. Ok (record { left = i; right = j }, ts)) (reads_column Begun Exprs whole)
     (λ j. reads_nothing Begun Exprs whole (record { left = i; right = j }))))
 
@@ -148,7 +148,7 @@ module _ (Begun Exprs : Type 0) (whole : Option ℕ) where
   only_column k make same i lt front rest e =
       layer_only Begun Exprs whole IsAgg IsAgg read_agg agg_kind_by refl (λ t ts. refl) (agg_branch Begun Exprs whole) (λ b. some_agg) (Keyword k) (Number i ∷ []) (make i)
       (λ at us rest h. same at (us ++ rest) ∙ (reads_agg_of Begun Exprs whole make).only (make i) us rest
-        (subst (λ (z : List TokenKind). AggIs make (make i) z) h (both i (make i) (Number i ∷ []) [] (grammar.IsColumn.column i lt) nothing)))
+      (subst (λ (z : List TokenKind). AggIs make (make i) z) h (both i (make i) (Number i ∷ []) [] (grammar.IsColumn.column i lt) nothing)))
       front rest e
 
   only_agg : (g : Agg) (ks : List TokenKind) → IsAgg g ks → (front rest : List Token) → ks ≡ kinds_of front → read_agg (front ++ rest) ≡ Ok (g, rest)

@@ -10,3 +10,5 @@ pub mod WholeExprs
 pub mod ListReaders
 pub mod EntryReaders
 pub mod NodeReaders
+pub mod PlanLevels
+pub mod WholePlans

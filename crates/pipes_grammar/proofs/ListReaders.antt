@@ -136,8 +136,8 @@ spells_entries E n _ _ (closed _ _ (more x xs ks ls is all)) le =
     let same : (ks ++ (Sign Comma ∷ [])) ++ ((ls ++ (Sign CloseList ∷ [])) ++ []) ≡ (ks ++ (Sign Comma ∷ ls)) ++ (Sign CloseList ∷ []) = simp (append_assoc, append-nil) in
     subst (λ (z : List TokenKind). EntriesIs E (ClosedWithin E n) (x ∷ xs) z) same
     (both (x, true) (x ∷ xs) (ks ++ (Sign Comma ∷ [])) ((ls ++ (Sign CloseList ∷ [])) ++ [])
-      (both x (x, true) ks (Sign Comma ∷ []) is (both true (x, true) (Sign Comma ∷ []) [] comma nothing))
-      (both xs (x ∷ xs) (ls ++ (Sign CloseList ∷ [])) [] (record { spells = closed xs ls all; count = omega (arith, le) }) nothing))
+    (both x (x, true) ks (Sign Comma ∷ []) is (both true (x, true) (Sign Comma ∷ []) [] comma nothing))
+    (both xs (x ∷ xs) (ls ++ (Sign CloseList ∷ [])) [] (record { spells = closed xs ls all; count = omega (arith, le) }) nothing))
 
 entries_wider : {A : Type 0} (E F : A → List TokenKind → Type 0) → ((x : A) (ks : List TokenKind) → E x ks → F x ks) → (xs : List A) (ks : List TokenKind)
     → AreEntries E xs ks → AreEntries F xs ks
@@ -247,7 +247,7 @@ reads_filled Begun Exprs whole Is IsW read entry =
     reads_as Begun Exprs whole (Then (ThisKind (Sign OpenList)) (λ x. Closed Is)) (Then (ThisKind (Sign OpenList)) (λ x. ClosedWithin IsW 32)) (IsFilled Is) (FilledWithin IsW)
     (filled_from read)
     (reads_in_turn Begun Exprs whole (ThisKind (Sign OpenList)) (ThisKind (Sign OpenList)) (λ x. Closed Is) (λ x. ClosedWithin IsW 32) (wanted is_open_list)
-      (λ x us. entries_within read 32 us) (reads_open_list Begun Exprs whole) (λ x. reads_entries Begun Exprs whole Is IsW read entry 32))
+    (λ x us. entries_within read 32 us) (reads_open_list Begun Exprs whole) (λ x. reads_entries Begun Exprs whole Is IsW read entry 32))
     (λ xs ks is. filled_is Is xs ks is) (λ xs ks is. filled_within IsW xs ks is) (λ xs ks is. spells_filled IsW xs ks is.spells is.count)
     (λ xs ks is. filled_wider IsW Is entry.wider xs ks is.spells)
 
@@ -312,12 +312,14 @@ module _ {A : Type 0} (Begun Exprs : Type 0) (Is IsW : A → List TokenKind → 
   rest_found [] xs rest e = absurd cc
   rest_found (t ∷ ts) xs rest e = elim (decide t.kind) [
     | inl is ↦
-      let o = one_value [] xs ts rest (sym (at_close t ts is) ∙ e) in
-      (t ∷ [], subst (λ (k : TokenKind). RestWithin IsW xs (k ∷ [])) (sym is) (subst (λ (z : List A). RestWithin IsW z (Sign CloseList ∷ [])) o.0 nothing_there),
-      ap (λ (z : List Token). t ∷ z) o.1)
+        let o = one_value [] xs ts rest (sym (at_close t ts is) ∙ e) in (
+          t ∷ [],
+          subst (λ (k : TokenKind). RestWithin IsW xs (k ∷ [])) (sym is) (subst (λ (z : List A). RestWithin IsW z (Sign CloseList ∷ [])) o.0 nothing_there),
+          ap (λ (z : List Token). t ∷ z) o.1,
+        )
     | inr bar ↦
-      let f = all.found (t ∷ ts) xs rest (sym (at_entry t ts bar) ∙ e) in
-      (f.0, record { spells = some_entries xs (kinds_of f.0) f.1.spells; count = f.1.count }, f.2)
+        let f = all.found (t ∷ ts) xs rest (sym (at_entry t ts bar) ∙ e) in
+        (f.0, record { spells = some_entries xs (kinds_of f.0) f.1.spells; count = f.1.count }, f.2)
   ]
     where
       nothing_there : RestWithin IsW [] (Sign CloseList ∷ [])
@@ -416,7 +418,7 @@ unfolding list_from
 reads_list_alone Begun Exprs Is IsW read entry starts =
     reads_as Begun Exprs None (Then (ThisKind (Sign OpenList)) (λ x. Rest Is)) (Then (ThisKind (Sign OpenList)) (λ x. RestWithin IsW)) (IsList Is) (ListWithin IsW) (list_from read)
     (reads_in_turn Begun Exprs None (ThisKind (Sign OpenList)) (ThisKind (Sign OpenList)) (λ x. Rest Is) (λ x. RestWithin IsW) (wanted is_open_list) (λ x us. entries_from read us)
-      (reads_open_list Begun Exprs None) (λ x. reads_rest Begun Exprs Is IsW read entry starts))
+    (reads_open_list Begun Exprs None) (λ x. reads_rest Begun Exprs Is IsW read entry starts))
     (λ xs ks is. list_is Is xs ks is) (λ xs ks is. list_within IsW xs ks is) (λ xs ks is. spells_list IsW xs ks is.spells is.count)
     (λ xs ks is. list_wider IsW Is entry.wider xs ks is.spells)
 

@@ -104,7 +104,7 @@ module _ {A B : Type 0} (Begun Exprs : Type 0) (whole : Option ℕ) (Is IsW : A 
   reads_heads : IsReader Begun Exprs whole (Heads Is Also) (Heads IsW AlsoW) heads_from
   reads_heads = reads_as Begun Exprs whole (HeadsIs Is Also) (HeadsIs IsW AlsoW) (Heads Is Also) (Heads IsW AlsoW) heads_from
       (reads_in_turn Begun Exprs whole _ _ _ _ (wanted is_open)
-        (λ o. in_turn read (λ x. in_turn (wanted is_comma) (λ c. in_turn other (λ y. in_turn (wanted is_comma) (λ d ts. Ok ((x, y), ts)))))) (reads_open Begun Exprs whole)
+      (λ o. in_turn read (λ x. in_turn (wanted is_comma) (λ c. in_turn other (λ y. in_turn (wanted is_comma) (λ d ts. Ok ((x, y), ts)))))) (reads_open Begun Exprs whole)
       (λ o. reads_in_turn Begun Exprs whole _ _ _ _ read (λ x. in_turn (wanted is_comma) (λ c. in_turn other (λ y. in_turn (wanted is_comma) (λ d ts. Ok ((x, y), ts))))) part
       (λ x. reads_in_turn Begun Exprs whole _ _ _ _ (wanted is_comma) (λ c. in_turn other (λ y. in_turn (wanted is_comma) (λ d ts. Ok ((x, y), ts)))) (reads_comma Begun Exprs whole)
       (λ c. reads_in_turn Begun Exprs whole _ _ _ _ other (λ y. in_turn (wanted is_comma) (λ d ts. Ok ((x, y), ts))) part2
