@@ -183,6 +183,7 @@ pub fn parse_expr(alloc: Global, tokens: &[Token]) -> Result<(Expr, &[Token]), P
 }
 
 /// The expression at the front, and the tokens behind it.
+#[tactic(auto, using(crate::proofs::WholeExprs::expr_found, crate::proofs::WholeExprs::expr_refused))]
 pub fn read_expr(alloc: Global, tokens: &[Token]) -> Result<(Expr, &[Token]), ParseFault>
     // What is read is spelled by the tokens before the rest.
     ensures found { IfOk result (λ x. Front IsExprText x.0 tokens.now x.1.now) }
@@ -194,5 +195,5 @@ pub fn read_expr(alloc: Global, tokens: &[Token]) -> Result<(Expr, &[Token]), Pa
     // Which refusal it is.
     ensures exact { Gives (λ x. (x.0, x.1.now)) result (spec.parse_expr tokens.now) }
 {
-    Err(ParseFault::Memory)
+    parse_expr(alloc, tokens)
 }

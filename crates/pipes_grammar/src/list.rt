@@ -8,6 +8,7 @@ ghost use Rattle.pipes_grammar.specs.Reading.{Front, Gives, done};
 ghost use Rattle.pipes_grammar.specs.ListReading as spec;
 
 use crate::ParseFault;
+use crate::node::parse_exprs;
 use crate::tokens::{behind_open_list, no_token, refused, too_many};
 use pipes_plan::Exprs;
 use pipes_token::{Sign, Token, TokenKind};
@@ -131,6 +132,7 @@ pub fn list_from<T: Entry + Drop>(
 }
 
 /// The list of expressions at the front, and the tokens behind it.
+#[tactic(auto, using(crate::proofs::EntryReaders::exprs_found))]
 pub fn read_exprs(alloc: Global, tokens: &[Token]) -> Result<(Exprs, &[Token]), ParseFault>
     // What is read is spelled by the tokens before the rest.
     ensures found { IfOk result (λ x. Front AreExprsText x.0 tokens.now x.1.now) }
@@ -140,5 +142,5 @@ pub fn read_exprs(alloc: Global, tokens: &[Token]) -> Result<(Exprs, &[Token]), 
     // Which refusal it is.
     ensures exact { Gives (λ x. (x.0, x.1.now)) result (spec.parse_exprs tokens.now) }
 {
-    Err(ParseFault::Memory)
+    parse_exprs(alloc, tokens)
 }

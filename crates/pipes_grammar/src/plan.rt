@@ -266,6 +266,7 @@ fn parse_plan<'a>(
 }
 
 /// The plan at the front, over declared sources with these names, and the tokens behind it.
+#[tactic(auto, using(crate::proofs::WholePlans::plan_found, crate::proofs::WholePlans::plan_refused))]
 pub fn read_plan<'a>(
     alloc: Global,
     names: &[Text],
@@ -282,5 +283,5 @@ pub fn read_plan<'a>(
     // Which refusal it is.
     ensures exact { Gives (λ x. (x.0, x.1.now)) result (spec.parse_plan names.now tokens.now) }
 {
-    Err(ParseFault::Memory)
+    parse_plan(alloc, names, tokens)
 }
