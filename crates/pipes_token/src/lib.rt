@@ -7,6 +7,7 @@ mod keyword;
 mod lex;
 mod place;
 mod quoted;
+mod read;
 mod refusal;
 mod token;
 
