@@ -8,3 +8,4 @@ pub mod OnlyTokens
 pub mod Longest
 pub mod Digits
 pub mod Words
+pub mod Following
