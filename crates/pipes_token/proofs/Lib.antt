@@ -9,3 +9,4 @@ pub mod Longest
 pub mod Digits
 pub mod Words
 pub mod Following
+pub mod Writing

@@ -9,6 +9,8 @@ mod place;
 mod quoted;
 mod read;
 mod refusal;
+#[cfg(test)]
+mod tests;
 mod token;
 
 pub use keyword::{KEYWORDS, Keyword};
