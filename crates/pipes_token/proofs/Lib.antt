@@ -10,3 +10,4 @@ pub mod Digits
 pub mod Words
 pub mod Following
 pub mod Writing
+pub mod Quoting

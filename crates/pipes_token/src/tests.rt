@@ -106,7 +106,7 @@ fn text_of(
     last: u8,
     count: usize,
 ) -> Result<Vec<u8>, Fail> {
-    let mut text = Vec::with_capacity(rt.alloc(), count + 2)?;
+    let mut text = Vec::new(rt.alloc());
     text.push(first)?;
     for _ in 0..count {
         text.push(byte)?;
