@@ -201,7 +201,7 @@ Of a_number bs kind = (is_numeral bs ≡ true) × (kind ≡ number_kind bs)
 Of a_string bs kind = (content : List ℕ) × IsString content bs × (kind ≡ string_kind content)
 Of a_sign bs kind = (s : ASign) × (bs ≡ sign_text s) × (kind ≡ Sign s)
 
-first_of_word : (b : ℕ) (bs : List ℕ) → is_word (b ∷ bs) ≡ true → class_of b ≡ a_word
+pub first_of_word : (b : ℕ) (bs : List ℕ) → is_word (b ∷ bs) ≡ true → class_of b ≡ a_word
 first_of_word b bs h =
     let letter : is_ascii_lowercase b ≡ true = (and_parts (is_ascii_lowercase b) (list_all is_word_byte bs) h).0 in
     rw letter refl
@@ -209,12 +209,12 @@ first_of_word b bs h =
 digit_is_no_letter : (b : ℕ) → is_ascii_digit b ≡ true → is_ascii_lowercase b ≡ false
 digit_is_no_letter b h = grind (arith, nat_tests)
 
-first_of_number : (b : ℕ) (bs : List ℕ) → is_numeral (b ∷ bs) ≡ true → class_of b ≡ a_number
+pub first_of_number : (b : ℕ) (bs : List ℕ) → is_numeral (b ∷ bs) ≡ true → class_of b ≡ a_number
 first_of_number b bs h =
     let digit : is_ascii_digit b ≡ true = (and_parts _ _ (and_parts _ _ h).1).0 in
     rw (digit_is_no_letter b digit, digit) refl
 
-first_of_string : (content : List ℕ) (b : ℕ) (bs : List ℕ) → IsString content (b ∷ bs) → class_of b ≡ a_string
+pub first_of_string : (content : List ℕ) (b : ℕ) (bs : List ℕ) → IsString content (b ∷ bs) → class_of b ≡ a_string
 first_of_string content b bs h =
     let quote : b ≡ 34 = head_of b 34 bs (h.inside ++ (34 ∷ [])) h.quoted in
     ap class_of quote

@@ -5,3 +5,9 @@ pub mod Strings
 pub mod Fronts
 pub mod ByFirst
 pub mod OnlyTokens
+pub mod Longest
+pub mod Digits
+pub mod Words
+pub mod Following
+pub mod Writing
+pub mod Quoting

@@ -7,7 +7,10 @@ mod keyword;
 mod lex;
 mod place;
 mod quoted;
+mod read;
 mod refusal;
+#[cfg(test)]
+mod tests;
 mod token;
 
 pub use keyword::{KEYWORDS, Keyword};
