@@ -55,10 +55,10 @@ unfolding read_column
 reads_column names =
     retold (ColumnTurns names) (ColumnTurns names) (NewColumn names) (NewColumn names) AtToken (read_column names)
     (turns (One (name_value word_of names)) (One (name_value word_of names)) (λ name. Mapped (λ sort. (name, sort)) (One kind_of)) (λ name. Mapped (λ sort. (name, sort)) (One kind_of))
-      (read_name word_of names) (λ name. in_turn read_kind (λ sort. done_with (name, sort)))
-      (reads_name word_of names (λ w. refl))
-      (λ name ks is. maps (λ sort. (name, sort)) (One kind_of) (One kind_of) read_kind reads_kind)
-      (λ name ks is. ((name, kind.Int), Keyword keyword.Int ∷ [], mapped kind.Int (Keyword keyword.Int ∷ []) (one (Keyword keyword.Int) kind.Int refl))))
+    (read_name word_of names) (λ name. in_turn read_kind (λ sort. done_with (name, sort)))
+    (reads_name word_of names (λ w. refl))
+    (λ name ks is. maps (λ sort. (name, sort)) (One kind_of) (One kind_of) read_kind reads_kind)
+    (λ name ks is. ((name, kind.Int), Keyword keyword.Int ∷ [], mapped kind.Int (Keyword keyword.Int ∷ []) (one (Keyword keyword.Int) kind.Int refl))))
     (column_of names) (column_of names) (λ c ks is. of_column names c.0 c.1 ks is.0 is.1) (λ c ks is. is)
 
 -- a column, and whether another follows
@@ -147,16 +147,20 @@ pub some_more : (columns : Columns) → Begins (More any columns) []
 some_more columns = by (fresh columns.0)
   where
     by : (w : List ℕ) × (is_taken columns.0 w ≡ false) → Begins (More any columns) []
-    by (w, h) = (with_column columns (w, kind.Int), Name w ∷ Keyword keyword.Int ∷ Sign Close ∷ [], record {
-      names = w ∷ [];
-      sorts = kind.Int ∷ [];
-      cs = Name w ∷ Keyword keyword.Int ∷ [];
-      are = last w kind.Int (Name w ∷ Keyword keyword.Int ∷ []) (column w kind.Int (Name w) (Keyword keyword.Int) refl refl);
-      new = (h, tt);
-      short = tt;
-      all_is = refl;
-      ks_is = refl;
-    })
+    by (w, h) = (
+      with_column columns (w, kind.Int),
+      Name w ∷ Keyword keyword.Int ∷ Sign Close ∷ [],
+      record {
+        names = w ∷ [];
+        sorts = kind.Int ∷ [];
+        cs = Name w ∷ Keyword keyword.Int ∷ [];
+        are = last w kind.Int (Name w ∷ Keyword keyword.Int ∷ []) (column w kind.Int (Name w) (Keyword keyword.Int) refl refl);
+        new = (h, tt);
+        short = tt;
+        all_is = refl;
+        ks_is = refl;
+      },
+    )
 
 -- what ends the sentence behind a column
 some_goes : (goes : Bool) (columns : Columns) → Begins (Goes goes columns (More any columns)) []
@@ -168,8 +172,8 @@ apart : (left : ℕ) (columns all : Columns) (ks : List TokenKind) (names : List
     → AreNew columns.0 names → length names ≤ suc left → all ≡ beside (columns.0 ++ names) (columns.1 ++ sorts) → ks ≡ cs ++ (Sign Close ∷ []) → MoreTurns (at_most left) columns all ks
 apart left columns all ks _ _ _ (last name sort cs is) new short e f =
     let turn : MoreTurns (at_most left) columns (with_column columns (name, sort)) ((cs ++ (Sign Close ∷ [])) ++ []) =
-        both ((name, sort), false) (with_column columns (name, sort)) (cs ++ (Sign Close ∷ [])) []
-        (both (name, sort) ((name, sort), false) cs (Sign Close ∷ []) (is, new.0) (mapped false (Sign Close ∷ []) (one (Sign Close) false refl))) pure in
+    both ((name, sort), false) (with_column columns (name, sort)) (cs ++ (Sign Close ∷ [])) []
+    (both (name, sort) ((name, sort), false) cs (Sign Close ∷ []) (is, new.0) (mapped false (Sign Close ∷ []) (one (Sign Close) false refl))) pure in
     subst (λ (z : Columns). MoreTurns (at_most left) columns z ks) (sym e)
     (subst (λ (z : List TokenKind). MoreTurns (at_most left) columns (with_column columns (name, sort)) z) (append_assoc cs (Sign Close ∷ []) [] ∙ sym f) turn)
 apart left columns all ks _ _ _ (more name sort names sorts cs ls is are) new short e f =
@@ -184,8 +188,8 @@ apart left columns all ks _ _ _ (more name sort names sorts cs ls is are) new sh
       ks_is = refl;
     } in
     let turn : MoreTurns (at_most left) columns all ((cs ++ (Sign Comma ∷ [])) ++ (ls ++ (Sign Close ∷ []))) =
-        both ((name, sort), true) all (cs ++ (Sign Comma ∷ [])) (ls ++ (Sign Close ∷ []))
-        (both (name, sort) ((name, sort), true) cs (Sign Comma ∷ []) (is, new.0) (mapped true (Sign Comma ∷ []) (one (Sign Comma) true refl))) rest in
+    both ((name, sort), true) all (cs ++ (Sign Comma ∷ [])) (ls ++ (Sign Close ∷ []))
+    (both (name, sort) ((name, sort), true) cs (Sign Comma ∷ []) (is, new.0) (mapped true (Sign Comma ∷ []) (one (Sign Comma) true refl))) rest in
     subst (λ (z : List TokenKind). MoreTurns (at_most left) columns all z)
     (append_assoc cs (Sign Comma ∷ []) (ls ++ (Sign Close ∷ [])) ∙ sym (append_assoc cs (Sign Comma ∷ ls) (Sign Close ∷ [])) ∙ sym f) turn
 
@@ -230,12 +234,12 @@ unfolding columns_within
 reads_one_more left columns others =
     retold (MoreTurns any columns) (MoreTurns (at_most left) columns) (More any columns) (More (at_most (suc left)) columns) AtToken (columns_within (suc left) columns)
     (turns (Step columns.0) (Step columns.0) (λ s. Goes s.1 (with_column columns s.0) (More any (with_column columns s.0)))
-      (λ s. Goes s.1 (with_column columns s.0) (More (at_most left) (with_column columns s.0)))
-      (read_step columns.0) (λ s. followed s.1 (with_column columns s.0) (columns_within left (with_column columns s.0)))
-      (reads_step columns.0)
-      (λ s ks is. reads_on s.1 (with_column columns s.0) (More any (with_column columns s.0)) (More (at_most left) (with_column columns s.0))
-        (columns_within left (with_column columns s.0)) (others (with_column columns s.0)))
-      (λ s ks is. some_goes s.1 (with_column columns s.0)))
+    (λ s. Goes s.1 (with_column columns s.0) (More (at_most left) (with_column columns s.0)))
+    (read_step columns.0) (λ s. followed s.1 (with_column columns s.0) (columns_within left (with_column columns s.0)))
+    (reads_step columns.0)
+    (λ s ks is. reads_on s.1 (with_column columns s.0) (More any (with_column columns s.0)) (More (at_most left) (with_column columns s.0))
+    (columns_within left (with_column columns s.0)) (others (with_column columns s.0)))
+    (λ s ks is. some_goes s.1 (with_column columns s.0)))
     (gathered any any (λ n h. tt) tt columns)
     (gathered (at_most (suc left)) (at_most left) (λ n h. omega arith) (omega arith) columns)
     (λ all ks m. apart left columns all ks m.names m.sorts m.cs m.are m.new m.short m.all_is m.ks_is)

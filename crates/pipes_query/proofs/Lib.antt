@@ -5,5 +5,6 @@ pub mod Tokens
 pub mod ColumnLaws
 pub mod SourceLaws
 pub mod QueryLaws
-pub mod WholeLaws
 pub mod Unended
+pub mod WholeLaws
+pub mod TextLaws

@@ -125,8 +125,11 @@ sources_wider : (left : ℕ) (sources all : List SourceDecl) (ks : List TokenKin
 sources_wider left sources all ks m = record { new = m.new; ss = m.ss; are = m.are; named = m.named; once = m.once; short = tt; all_is = m.all_is; ks_is = m.ks_is }
 
 pub some_sources : (sources : List SourceDecl) → Begins (MoreSources anything sources) []
-some_sources sources = (sources, Keyword keyword.Plan ∷ [],
-    record { new = []; ss = []; are = none; named = tt; once = tt; short = tt; all_is = sym (append-nil sources); ks_is = refl })
+some_sources sources = (
+  sources,
+  Keyword keyword.Plan ∷ [],
+  record { new = []; ss = []; are = none; named = tt; once = tt; short = tt; all_is = sym (append-nil sources); ks_is = refl },
+)
 
 some_on : (sources : List SourceDecl) (o : Option SourceDecl) → Begins (GoesOn anything sources o) []
 some_on sources (Some s) = some_sources (sources ++ (s ∷ []))
@@ -137,7 +140,7 @@ apart : (left : ℕ) (sources all : List SourceDecl) (ks : List TokenKind) (new 
     → ColumnsNamedOnce new → limited (suc left) new → all ≡ sources ++ new → ks ≡ ss ++ (Keyword keyword.Plan ∷ []) → SourcesTurns (at_most 32) (limited left) sources all ks
 apart left sources all ks _ _ none named once short e f =
     let turn : SourcesTurns (at_most 32) (limited left) sources sources (Keyword keyword.Plan ∷ []) =
-        both None sources (Keyword keyword.Plan ∷ []) [] (both false None (Keyword keyword.Plan ∷ []) [] (one (Keyword keyword.Plan) false refl) pure) pure in
+    both None sources (Keyword keyword.Plan ∷ []) [] (both false None (Keyword keyword.Plan ∷ []) [] (one (Keyword keyword.Plan) false refl) pure) pure in
     subst (λ (z : List SourceDecl). SourcesTurns (at_most 32) (limited left) sources z ks) (sym (e ∙ append-nil sources))
     (subst (λ (z : List TokenKind). SourcesTurns (at_most 32) (limited left) sources sources z) (sym f) turn)
 apart left sources all ks _ _ (further s ss _ ls (source _ cs ws are lasts) others) named once short e f =
@@ -153,9 +156,9 @@ apart left sources all ks _ _ (further s ss _ ls (source _ cs ws are lasts) othe
       ks_is = refl;
     } in
     let turn : SourcesTurns (at_most 32) (limited left) sources all ((Keyword keyword.Source ∷ tail) ++ (ls ++ (Keyword keyword.Plan ∷ []))) =
-        both (Some s) all (Keyword keyword.Source ∷ tail) (ls ++ (Keyword keyword.Plan ∷ []))
-        (both true (Some s) (Keyword keyword.Source ∷ []) tail (one (Keyword keyword.Source) true refl)
-          (mapped s tail (record { is = source s cs ws are lasts; free = named.0; new = once.0; short = short.1.0 }))) rest in
+    both (Some s) all (Keyword keyword.Source ∷ tail) (ls ++ (Keyword keyword.Plan ∷ []))
+    (both true (Some s) (Keyword keyword.Source ∷ []) tail (one (Keyword keyword.Source) true refl)
+    (mapped s tail (record { is = source s cs ws are lasts; free = named.0; new = once.0; short = short.1.0 }))) rest in
     subst (λ (z : List TokenKind). SourcesTurns (at_most 32) (limited left) sources all z)
     (sym (append_assoc (Keyword keyword.Source ∷ tail) ls (Keyword keyword.Plan ∷ [])) ∙ sym f) turn
 
@@ -201,8 +204,8 @@ unfolding sources_within
 reads_one_more left sources others =
     retold (SourcesTurns any anything sources) (SourcesTurns (at_most 32) (limited left) sources) (MoreSources anything sources) (MoreSources (limited (suc left)) sources) AtToken (sources_within (suc left) sources)
     (turns (NextSource any (names_of sources)) (NextSource (at_most 32) (names_of sources)) (GoesOn anything sources) (GoesOn (limited left) sources)
-      (next_source (names_of sources)) (λ o. gathered o sources (λ all. sources_within left all))
-      (reads_next_source (names_of sources)) (λ o ks is. reads_on_by left sources others o) (λ o ks is. some_on sources o))
+    (next_source (names_of sources)) (λ o. gathered o sources (λ all. sources_within left all))
+    (reads_next_source (names_of sources)) (λ o ks is. reads_on_by left sources others o) (λ o ks is. some_on sources o))
     (all_gathered any anything anything (λ s ss h k. tt) tt sources)
     (all_gathered (at_most 32) (limited (suc left)) (limited left) (λ s ss h k. (omega (arith, k.0), (h, k.1))) (omega arith, tt) sources)
     (λ all ks m. apart left sources all ks m.new m.ss m.are m.named m.once m.short m.all_is m.ks_is)

@@ -101,7 +101,7 @@ unfolding read_window
 reads_window =
     retold WindowTurns WindowTurns IsWindow IsWindow AtToken read_window
     (turns (One measure_of) (One measure_of) (λ m. One (size_of m)) (λ m. One (size_of m)) read_measure (λ m. read_size m) reads_measure
-      (λ m ks is. reads_size m) (λ m ks is. some_size m))
+    (λ m ks is. reads_size m) (λ m ks is. some_size m))
     window_is window_is of_window (λ w ks is. is)
 
 some_window : (w : WindowKind) × (ks : List TokenKind) × IsWindow w ks
@@ -135,11 +135,14 @@ head_is names _ _ (both name _ _ _ (one k _ e) (both x _ _ _ (one l _ f) (mapped
 of_head : (names : List (List ℕ)) (h : Head) (ks : List TokenKind) → IsHead names h ks → HeadTurns names h ks
 of_head names h ks is = subst (λ (z : List TokenKind). HeadTurns names h z) (sym is.1)
     (both h.0 h (Name h.0 ∷ []) (Keyword keyword.From ∷ Text h.1 ∷ []) (one (Name h.0) h.0 (name_new names (Some h.0) h.0 refl is.0))
-      (both tt h (Keyword keyword.From ∷ []) (Text h.1 ∷ []) (one (Keyword keyword.From) tt refl) (mapped h.1 (Text h.1 ∷ []) (one (Text h.1) h.1 refl))))
+    (both tt h (Keyword keyword.From ∷ []) (Text h.1 ∷ []) (one (Keyword keyword.From) tt refl) (mapped h.1 (Text h.1 ∷ []) (one (Text h.1) h.1 refl))))
 
 some_file : (name : List ℕ) → Begins (FileTurns name) []
-some_file name = ((name, []), Keyword keyword.From ∷ Text [] ∷ [],
-    both tt (name, []) (Keyword keyword.From ∷ []) (Text [] ∷ []) (one (Keyword keyword.From) tt refl) (mapped [] (Text [] ∷ []) (one (Text []) [] refl)))
+some_file name = (
+  (name, []),
+  Keyword keyword.From ∷ Text [] ∷ [],
+  both tt (name, []) (Keyword keyword.From ∷ []) (Text [] ∷ []) (one (Keyword keyword.From) tt refl) (mapped [] (Text [] ∷ []) (one (Text []) [] refl)),
+)
 
 reads_file : (name : List ℕ) → IsReader (FileTurns name) (FileTurns name) AtToken (in_turn (expect mark.From) (λ x. in_turn read_text (λ file. done_with (name, file))))
 reads_file name =
@@ -153,8 +156,8 @@ unfolding read_head
 reads_head names =
     retold (HeadTurns names) (HeadTurns names) (IsHead names) (IsHead names) AtToken (read_head names)
     (turns (One (name_value source_word names)) (One (name_value source_word names)) FileTurns FileTurns (read_name source_word names)
-      (λ name. in_turn (expect mark.From) (λ x. in_turn read_text (λ file. done_with (name, file))))
-      (reads_name source_word names (λ w. refl)) (λ name ks is. reads_file name) (λ name ks is. some_file name))
+    (λ name. in_turn (expect mark.From) (λ x. in_turn read_text (λ file. done_with (name, file))))
+    (reads_name source_word names (λ w. refl)) (λ name ks is. reads_file name) (λ name ks is. some_file name))
     (head_is names) (head_is names) (of_head names) (λ h ks is. is)
 
 -- ---- its columns and window
@@ -206,12 +209,19 @@ shape_is bound _ _ (both x _ _ _ (one k _ e) (both columns _ cs _ m (both y _ _ 
 of_shape : (bound : ℕ → Type 0) (s : Shape) (ks : List TokenKind) → IsShape bound s ks → ShapeTurns bound s ks
 of_shape bound s ks is =
     let inner : More bound no_columns s.0 (is.cs ++ (Sign Close ∷ [])) = record {
-      names = s.0.0; sorts = s.0.1; cs = is.cs; are = is.are; new = is.new; short = is.short; all_is = refl; ks_is = refl;
+      names = s.0.0;
+      sorts = s.0.1;
+      cs = is.cs;
+      are = is.are;
+      new = is.new;
+      short = is.short;
+      all_is = refl;
+      ks_is = refl;
     } in
     let turn : ShapeTurns bound s (Sign Open ∷ ((is.cs ++ (Sign Close ∷ [])) ++ (Keyword keyword.Window ∷ is.ws))) =
-        both tt s (Sign Open ∷ []) ((is.cs ++ (Sign Close ∷ [])) ++ (Keyword keyword.Window ∷ is.ws)) (one (Sign Open) tt refl)
-        (both s.0 s (is.cs ++ (Sign Close ∷ [])) (Keyword keyword.Window ∷ is.ws) inner
-          (both tt s (Keyword keyword.Window ∷ []) is.ws (one (Keyword keyword.Window) tt refl) (mapped s.1 is.ws is.lasts))) in
+    both tt s (Sign Open ∷ []) ((is.cs ++ (Sign Close ∷ [])) ++ (Keyword keyword.Window ∷ is.ws)) (one (Sign Open) tt refl)
+    (both s.0 s (is.cs ++ (Sign Close ∷ [])) (Keyword keyword.Window ∷ is.ws) inner
+    (both tt s (Keyword keyword.Window ∷ []) is.ws (one (Keyword keyword.Window) tt refl) (mapped s.1 is.ws is.lasts))) in
     subst (λ (z : List TokenKind). ShapeTurns bound s z)
     (ap (λ (z : List TokenKind). Sign Open ∷ z) (append_assoc is.cs (Sign Close ∷ []) (Keyword keyword.Window ∷ is.ws)) ∙ sym is.ks_is) turn
 
@@ -219,8 +229,11 @@ shape_wider : (s : Shape) (ks : List TokenKind) → IsShape (at_most 32) s ks �
 shape_wider s ks is = record { cs = is.cs; ws = is.ws; are = is.are; new = is.new; short = tt; lasts = is.lasts; ks_is = is.ks_is }
 
 some_last : (columns : Columns) → Begins (LastTurns columns) []
-some_last columns = ((columns, some_window.0), Keyword keyword.Window ∷ some_window.1,
-    both tt (columns, some_window.0) (Keyword keyword.Window ∷ []) some_window.1 (one (Keyword keyword.Window) tt refl) (mapped some_window.0 some_window.1 some_window.2))
+some_last columns = (
+  (columns, some_window.0),
+  Keyword keyword.Window ∷ some_window.1,
+  both tt (columns, some_window.0) (Keyword keyword.Window ∷ []) some_window.1 (one (Keyword keyword.Window) tt refl) (mapped some_window.0 some_window.1 some_window.2),
+)
 
 some_inner : Begins (InnerTurns any) []
 some_inner =
@@ -247,8 +260,8 @@ unfolding read_shape
 reads_shape =
     retold (ShapeTurns any) (ShapeTurns (at_most 32)) (IsShape any) (IsShape (at_most 32)) AtToken read_shape
     (turns (One (mark_value mark.Open)) (One (mark_value mark.Open)) (λ x. InnerTurns any) (λ x. InnerTurns (at_most 32)) (expect mark.Open)
-      (λ x. in_turn (columns_within 32 no_columns) (λ columns. in_turn (expect mark.Window) (λ y. in_turn read_window (λ w. done_with (columns, w)))))
-      (reads_mark mark.Open) (λ x ks is. reads_inner) (λ x ks is. some_inner))
+    (λ x. in_turn (columns_within 32 no_columns) (λ columns. in_turn (expect mark.Window) (λ y. in_turn read_window (λ w. done_with (columns, w)))))
+    (reads_mark mark.Open) (λ x ks is. reads_inner) (λ x ks is. some_inner))
     (shape_is any) (shape_is (at_most 32)) (of_shape (at_most 32)) shape_wider
 
 -- ---- a source
@@ -279,8 +292,8 @@ of_source bound names _ _ ks (source s cs ws are lasts) e free new short =
     let tail : Name s.name ∷ Keyword keyword.From ∷ Text s.file ∷ Sign Open ∷ (cs ++ (Sign Close ∷ Keyword keyword.Window ∷ ws)) ≡ ks = cc in
     subst (λ (z : List TokenKind). SourceTurns bound names s z) tail
     (both (s.name, s.file) s (Name s.name ∷ Keyword keyword.From ∷ Text s.file ∷ []) (Sign Open ∷ (cs ++ (Sign Close ∷ Keyword keyword.Window ∷ ws))) (free, refl)
-      (mapped ((s.names, s.schema), s.window) (Sign Open ∷ (cs ++ (Sign Close ∷ Keyword keyword.Window ∷ ws)))
-        (record { cs = cs; ws = ws; are = are; new = new; short = short; lasts = lasts; ks_is = refl })))
+    (mapped ((s.names, s.schema), s.window) (Sign Open ∷ (cs ++ (Sign Close ∷ Keyword keyword.Window ∷ ws)))
+    (record { cs = cs; ws = ws; are = are; new = new; short = short; lasts = lasts; ks_is = refl })))
 
 source_wider : (names : List (List ℕ)) (s : SourceDecl) (ks : List TokenKind) → IsNewSource (at_most 32) names s ks → IsNewSource any names s ks
 source_wider names s ks is = record { is = is.is; free = is.free; new = is.new; short = tt }
@@ -296,8 +309,8 @@ unfolding read_source
 reads_source names =
     retold (SourceTurns any names) (SourceTurns (at_most 32) names) (IsNewSource any names) (IsNewSource (at_most 32) names) AtToken (read_source names)
     (turns (IsHead names) (IsHead names) (λ head. Mapped (declared head) (IsShape any)) (λ head. Mapped (declared head) (IsShape (at_most 32)))
-      (read_head names) (λ head. in_turn read_shape (λ shape. done_with (declared head shape))) (reads_head names)
-      (λ head ks is. maps (declared head) (IsShape any) (IsShape (at_most 32)) read_shape reads_shape) (λ head ks is. some_shape head))
+    (read_head names) (λ head. in_turn read_shape (λ shape. done_with (declared head shape))) (reads_head names)
+    (λ head ks is. maps (declared head) (IsShape any) (IsShape (at_most 32)) read_shape reads_shape) (λ head ks is. some_shape head))
     (source_is any names) (source_is (at_most 32) names) (λ s ks is. of_source (at_most 32) names s (Keyword keyword.Source ∷ ks) ks is.is refl is.free is.new is.short)
     (source_wider names)
 

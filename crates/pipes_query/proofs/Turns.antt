@@ -106,16 +106,18 @@ module _ {A B : Type 0} (Is IsW : A → List TokenKind → Type 0) (Next NextW :
   moved : (x : A) (front us : List Token) → Is x (kinds_of front) → Begins (Next x) (kinds_of us) → Begins (Then Is Next) (kinds_of (front ++ us))
   moved x front us is (y, more, after) =
       let e : kinds_of front ++ (kinds_of us ++ more) ≡ kinds_of (front ++ us) ++ more = sym (append_assoc (kinds_of front) (kinds_of us) more)
-          ∙ ap (λ (z : List TokenKind). z ++ more) (sym (kinds-append front us)) in
+      ∙ ap (λ (z : List TokenKind). z ++ more) (sym (kinds-append front us)) in
       (y, more, subst (λ (z : List TokenKind). Then Is Next y z) e (both x y (kinds_of front) (kinds_of us ++ more) is after))
 
   found_both : (ts : List Token) (y : B) (rest : List Token) (q : Result (A × List Token) Refusal) → read ts ≡ q → (q >>= λ x. next x.0 x.1) ≡ Ok (y, rest)
       → Front (Then IsW NextW) y ts rest
   found_both ts y rest (Ok (x, us)) is e =
       let f = one.found ts x us is in
-      let g = (two x (kinds_of f.0) f.1).found us y rest e in
-      (f.0 ++ g.0, subst (λ (z : List TokenKind). Then IsW NextW y z) (sym (kinds-append f.0 g.0)) (both x y (kinds_of f.0) (kinds_of g.0) f.1 g.1),
-      f.2 ∙ ap (λ (z : List Token). f.0 ++ z) g.2 ∙ sym (append_assoc f.0 g.0 rest))
+      let g = (two x (kinds_of f.0) f.1).found us y rest e in (
+        f.0 ++ g.0,
+        subst (λ (z : List TokenKind). Then IsW NextW y z) (sym (kinds-append f.0 g.0)) (both x y (kinds_of f.0) (kinds_of g.0) f.1 g.1),
+        f.2 ∙ ap (λ (z : List Token). f.0 ++ z) g.2 ∙ sym (append_assoc f.0 g.0 rest),
+      )
   found_both ts y rest (Err r) is e = absurd cc
 
   only_both : (y : B) (ks : List TokenKind) → Then IsW NextW y ks → (front rest : List Token) → ks ≡ kinds_of front → in_turn read next (front ++ rest) ≡ Ok (y, rest)
@@ -188,7 +190,7 @@ module _ {A B : Type 0} (Is IsW : A → List TokenKind → Type 0) (Next NextW :
   ends_by ts r (Ok (x, us)) unended first second h is e =
       let f = one.found ts x us is in
       let left : has_last (kinds_of us) ≡ true = behind (kinds_of f.0) (kinds_of us) (unended x (kinds_of f.0) f.1)
-          (ap (λ (z : List TokenKind). has_last z) (sym (kinds-append f.0 us)) ∙ ap (λ (z : List Token). has_last (kinds_of z)) (sym f.2) ∙ h) in
+      (ap (λ (z : List TokenKind). has_last z) (sym (kinds-append f.0 us)) ∙ ap (λ (z : List Token). has_last (kinds_of z)) (sym f.2) ∙ h) in
       stops_second ts r x f.0 us f.1 f.2 (second x (kinds_of f.0) us f.1 left e)
 
   pub meets_end : ((x : A) (ks : List TokenKind) → IsW x ks → has_last ks ≡ false) → MeetsEnd Is First read
@@ -229,8 +231,13 @@ retold {A} Is IsW Is2 IsW2 Where read one to within back wide = record {
     told : (ts : List Token) (r : Refusal) → Out Is Where read ts r → Out Is2 Where read ts r
     told ts r (inl out) = inl (record { is_end = out.is_end; begins = begun (kinds_of ts) out.begins })
     told ts r (inr s) = inr (record {
-      before = s.before; refused = s.refused; after = s.after; parts = s.parts;
-      begins = begun (kinds_of s.before) s.begins; stands = s.stands; place = s.place;
+      before = s.before;
+      refused = s.refused;
+      after = s.after;
+      parts = s.parts;
+      begins = begun (kinds_of s.before) s.begins;
+      stands = s.stands;
+      place = s.place;
     })
 
 -- ---- a value with no token
@@ -384,7 +391,7 @@ first_place {A} Is Within Where read reads ts r s = record {
         let front = s.before ++ (s.refused ∷ other) in
         let same : front ≡ (s.before ++ (s.refused ∷ [])) ++ other = sym (append_assoc s.before (s.refused ∷ []) other) in
         let kinds : kinds_of (s.before ++ (s.refused ∷ [])) ++ more ≡ kinds_of front =
-            ap (λ (z : List TokenKind). kinds_of (s.before ++ (s.refused ∷ [])) ++ z) (sym (kinds-tokens more)) ∙ sym (kinds-append (s.before ++ (s.refused ∷ [])) other)
-            ∙ ap (λ (z : List Token). kinds_of z) (sym same) in
+        ap (λ (z : List TokenKind). kinds_of (s.before ++ (s.refused ∷ [])) ++ z) (sym (kinds-tokens more)) ∙ sym (kinds-append (s.before ++ (s.refused ∷ [])) other)
+        ∙ ap (λ (z : List Token). kinds_of z) (sym same) in
         let read_on = reads.only x front [] (subst (λ (z : List TokenKind). Within x z) kinds is) in
         differ x [] (front ++ []) front (append-nil front) read_on (s.stands other)

@@ -87,7 +87,7 @@ plan_unended names _ _ (plans.IsPlan.union a b ks ls is it) = comma_then ks (ls 
 plan_unended names _ _ (plans.IsPlan.join pairs c a b ps cs ks ls ip ic is it) =
     comma_then ps (cs ++ (Sign Comma ∷ (ks ++ (Sign Comma ∷ (ls ++ (Sign Close ∷ [])))))) (list_unended IsPair pair_unended pairs ps ip)
     (comma_then cs (ks ++ (Sign Comma ∷ (ls ++ (Sign Close ∷ [])))) (expr_unended c cs ic)
-      (comma_then ks (ls ++ (Sign Close ∷ [])) (plan_unended names a ks is) (closed ls (plan_unended names b ls it))))
+    (comma_then ks (ls ++ (Sign Close ∷ [])) (plan_unended names a ks is) (closed ls (plan_unended names b ls it))))
 plan_unended names _ _ (plans.IsPlan.distinct a ks is) = closed ks (plan_unended names a ks is)
 plan_unended names _ _ (plans.IsPlan.group columns aggs a cs gs ks ic ig is) =
     comma_then cs (gs ++ (Sign Comma ∷ (ks ++ (Sign Close ∷ [])))) (list_unended IsColumn column_unended columns cs ic)

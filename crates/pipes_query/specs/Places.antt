@@ -33,7 +33,7 @@ Refuses ts r = FirstPlace (Whole IsNamedQuery) (Whole IsQueryText) IsQueryPlace 
 -- A text's refusal: it is too long, or its tokens are refused.
 pub data IsRefused (bytes : List ℕ) : TextRefusal → Type 0 where
   too_long : 1048576 < length bytes → IsRefused bytes (record { line = 1; column = 1; why = why.Long })
-  tokens : (ts : List Token) (r : Refusal) → length bytes ≤ 1048576 → Tokens 0 bytes ts → Refuses ts r → IsRefused bytes (told bytes r)
+  tokens : (ts : List Token) (r : Refusal) → length bytes ≤ 1048576 → Tokens (length bytes) bytes ts → Refuses ts r → IsRefused bytes (told bytes r)
 
 abbrev pub HasCause : List ℕ → ReadFault → Type 0
 HasCause bytes (fault.Text r) = IsRefused bytes r

@@ -17,7 +17,7 @@ Whole Is q ks = (front : List TokenKind) × Is q front × (ks ≡ front ++ (End 
 -- The tokens of the text are those of a query.
 pub record IsText (q : Query) (bytes : List ℕ) : Type 0 where
   pub tokens : List Token
-  pub are : Tokens 0 bytes tokens
+  pub are : Tokens (length bytes) bytes tokens
   pub spells : Whole IsQueryText q (kinds_of tokens)
 
 -- The same, of a text within the limit.

@@ -6,5 +6,8 @@ mod query;
 mod read;
 mod source;
 mod take;
+mod text;
 
+pub use pipes_token::{ReadFault, TextRefusal, TextWhy};
 pub use query::{ColumnNames, Query, SourceDecl, Sources};
+pub use text::read_query;

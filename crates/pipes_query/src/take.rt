@@ -221,10 +221,3 @@ pub fn read_size(measure: Measure, tokens: &[Token]) -> Result<(WindowKind, &[To
         },
     }
 }
-
-#[tactic(auto, using(crate::proofs::WholeLaws::reads_query, crate::proofs::Unended::sources_unended))]
-fn probe(number: u8) -> u8
-    ensures { result ≡ number }
-{
-    number
-}
