@@ -1,5 +1,5 @@
 // Pieces of what is printed.
-ghost use Rattle.std.specs.Prelude.{◌≡◌, ◌++◌, OnOk};
+ghost use Rattle.std.specs.Prelude.{◌≡◌, ◌++◌, OnOk, OnErr};
 ghost use Rattle.std.specs.Fmt.{decimal};
 ghost use Rattle.pipes_tuple.specs.Texts.{text_of};
 
@@ -9,7 +9,8 @@ use pipes_tuple::Value;
 
 // Appends the bytes.
 pub(crate) fn push(bytes: &[u8], out: &mut Vec<u8>) -> Result<(), Memory>
-    ensures { OnOk result (out.new.items ≡ out.old.items ++ bytes.now) }
+    ensures ok { OnOk result (out.new.items ≡ out.old.items ++ bytes.now) }
+    ensures err { OnErr result (out.new.items ≡ out.old.items) }
 {
     match out.extend_from_slice(bytes) {
         Ok(()) => Ok(()),
