@@ -8,3 +8,4 @@ pub mod QueryLaws
 pub mod Unended
 pub mod WholeLaws
 pub mod TextLaws
+pub mod PrintLaws

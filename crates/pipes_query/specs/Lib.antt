@@ -5,3 +5,4 @@ pub mod Taking
 pub mod Reading
 pub mod Texts
 pub mod Places
+pub mod Printing

@@ -1,6 +1,6 @@
 // Reading sources.
-ghost use Rattle.std.specs.Prelude.{◌≡◌, ◌≤◌, ◌+◌, ◌∷◌, ◌++◌, IfOk, OnOk, vec_len, []};
-ghost use Rattle.std.specs.Option.{option_map};
+ghost use Rattle.std.specs.Prelude.{if◌then◌else◌, Some, ◌≡◌, ◌≤◌, ◌+◌, ◌∷◌, ◌++◌, IfOk, OnOk, vec_len, []};
+ghost use Rattle.pipes_token.specs.Keywords.{keyword_text};
 ghost use Rattle.pipes_grammar.specs.Reading.{Gives};
 ghost use Rattle.pipes_grammar.specs.Reading as reading;
 ghost use Rattle.pipes_query.specs.Names as named;
@@ -15,7 +15,7 @@ use crate::take::{
 use crate::{ColumnNames, SourceDecl};
 use pipes_grammar::ParseFault;
 use pipes_time::Memory;
-use pipes_token::{Refusal, TextWhy, Token, TokenKind};
+use pipes_token::{Keyword, Refusal, TextWhy, Token, TokenKind};
 use pipes_tuple::{Kind, Schema, Text};
 use pipes_window::WindowKind;
 use std::alloc::Global;
@@ -27,27 +27,30 @@ fn is_taken(names: &[Text], word: &Text) -> bool
     names.iter().any(|name| word.as_str() == name.as_str())
 }
 
-// The word that a token is, a keyword or not.
-fn word_of(alloc: Global, kind: &TokenKind) -> Result<Option<Text>, Memory>
-    ensures { IfOk result (λ word. word ≡ grammar.word_of kind.now) }
+// The word that a token is: a keyword only where any word may stand.
+fn word_of(alloc: Global, kind: &TokenKind, keywords: bool) -> Result<Option<Text>, Memory>
+    ensures { IfOk result (λ word. word ≡ (if keywords then grammar.word_of kind.now else taking.source_word kind.now)) }
 {
     match kind {
         TokenKind::Name(word) => Ok(Some(word.copy()?)),
-        TokenKind::Keyword(keyword) => match Text::new(alloc, keyword.text()) {
-            Ok(word) => Ok(Some(word)),
-            Err(_) => Err(Memory),
-        },
+        TokenKind::Keyword(keyword) => {
+            if keywords {
+                keyword_text(alloc, *keyword)
+            } else {
+                Ok(None)
+            }
+        }
         _ => Ok(None),
     }
 }
 
-// The word that a token is, unless it is a keyword.
-fn source_word(kind: &TokenKind) -> Result<Option<Text>, Memory>
-    ensures { IfOk result (λ word. word ≡ taking.source_word kind.now) }
+// A keyword as a word. None is longer than a text.
+fn keyword_text(alloc: Global, keyword: Keyword) -> Result<Option<Text>, Memory>
+    ensures { IfOk result (λ word. word ≡ Some (keyword_text keyword)) }
 {
-    match kind {
-        TokenKind::Name(word) => Ok(Some(word.copy()?)),
-        _ => Ok(None),
+    match Text::new(alloc, keyword.text()) {
+        Ok(word) => Ok(Some(word)),
+        Err(_) => Err(Memory),
     }
 }
 
@@ -78,6 +81,7 @@ fn new_name<'a>(
 // A source's name, beside others.
 #[tactic(auto, unfolding(crate::specs::Taking::read_name, crate::specs::Taking::take_by))]
 fn read_source_name<'a>(
+    alloc: Global,
     names: &[Text],
     tokens: &'a [Token],
 ) -> Result<(Text, &'a [Token]), ParseFault>
@@ -86,7 +90,7 @@ fn read_source_name<'a>(
     match tokens {
         [] => Err(ran_out()),
         [token, rest @ ..] => {
-            let word = source_word(&token.kind)?;
+            let word = word_of(alloc, &token.kind, false)?;
             new_name(names, word, token, rest)
         }
     }
@@ -104,7 +108,7 @@ fn read_column_name<'a>(
     match tokens {
         [] => Err(ran_out()),
         [token, rest @ ..] => {
-            let word = word_of(alloc, &token.kind)?;
+            let word = word_of(alloc, &token.kind, true)?;
             new_name(names, word, token, rest)
         }
     }
@@ -209,12 +213,13 @@ fn read_window(tokens: &[Token]) -> Result<(WindowKind, &[Token]), ParseFault>
 // A source's name and file.
 #[tactic(auto, unfolding(crate::specs::Reading::read_head))]
 fn read_head<'a>(
+    alloc: Global,
     names: &[Text],
     tokens: &'a [Token],
 ) -> Result<(Text, Text, &'a [Token]), ParseFault>
     ensures { Gives (λ x. ((x.0, x.1), x.2.now)) result (spec.read_head names.now tokens.now) }
 {
-    let (name, rest) = read_source_name(names, tokens)?;
+    let (name, rest) = read_source_name(alloc, names, tokens)?;
     let rest = expect(Mark::From, rest)?;
     let (file, rest) = read_text(rest)?;
     Ok((name, file.copy()?, rest))
@@ -244,7 +249,7 @@ pub fn read_source<'a>(
 ) -> Result<(SourceDecl, &'a [Token]), ParseFault>
     ensures { Gives (λ x. (x.0, x.1.now)) result (spec.read_source others.now tokens.now) }
 {
-    let (name, file, rest) = read_head(others, tokens)?;
+    let (name, file, rest) = read_head(alloc, others, tokens)?;
     let (names, schema, window, rest) = read_shape(alloc, rest)?;
     Ok((
         SourceDecl {
