@@ -1,5 +1,5 @@
 -- What may stand between tokens: separators and comments.
-use Rattle.std.specs.Prelude.{◌≡◌, ℕ, Bool, true, not, ◌||◌, ◌==◌, List, [], ◌∷◌, ◌++◌}
+use Rattle.std.specs.Prelude.{◌≡◌, ◌≢◌, ℕ, Bool, true, false, not, ◌||◌, ◌==◌, List, [], ◌∷◌, ◌++◌}
 use Rattle.std.specs.List.{list_all}
 
 -- space, tab, CR or LF
@@ -20,3 +20,15 @@ pub data IsGap (rest : List ℕ) : List ℕ → Type 0 where
   none : IsGap rest []
   separator : (b : ℕ) (gap : List ℕ) → is_separator b ≡ true → IsGap rest gap → IsGap rest (b ∷ gap)
   comment : (line gap whole : List ℕ) → whole ≡ 35 ∷ (line ++ gap) → list_all is_within_line line ≡ true → EndsLine (gap ++ rest) → IsGap rest gap → IsGap rest whole
+
+-- no separator and no comment begins here
+abbrev pub BeginsNoGap : List ℕ → Type 0
+BeginsNoGap [] = Unit {0}
+BeginsNoGap (b ∷ bs) = (is_separator b ≡ false) × (b ≢ 35)
+
+-- behind the longest gap, which may have no bytes
+pub record IsPastGap (bs here : List ℕ) : Type 0 where
+  pub gap : List ℕ
+  pub parts : bs ≡ gap ++ here
+  pub is_gap : IsGap here gap
+  pub longest : BeginsNoGap here

@@ -4,3 +4,4 @@ pub mod Strings
 pub mod Spelling
 pub mod Tokens
 pub mod Places
+pub mod Writing

@@ -19,6 +19,12 @@ pub data SpellsChar (c : ℕ) (bs : List ℕ) : Type 0 where
   itself : IsScalar c → is_plain c ≡ true → bs ≡ encode_utf8 c → SpellsChar c bs
   escape : (e : ℕ) → escaped_by e ≡ Some c → bs ≡ 92 ∷ e ∷ [] → SpellsChar c bs
 
+-- The bytes begin with what stands for the character, and `rest` is left behind that.
+pub record BeginsChar (bs : List ℕ) (c : ℕ) (rest : List ℕ) : Type 0 where
+  pub front : List ℕ
+  pub parts : bs ≡ front ++ rest
+  pub spells : SpellsChar c front
+
 -- The bytes stand for the characters, one after the other.
 abbrev pub SpellsChars : List ℕ → List ℕ → Type 0
 SpellsChars [] bs = bs ≡ []
@@ -41,12 +47,21 @@ abbrev pub StopsString : TextWhy → List ℕ → Type 0
 StopsString why [] = why ≡ Ended
 StopsString why (b ∷ bs) = (why ≡ Byte) × (b ≢ 34) × HasNoChar (b ∷ bs)
 
--- A string begins here, at place `at` of a text, and is refused behind some characters.
-pub record IsCut (at : ℕ) (bs : List ℕ) (refusal : Refusal) : Type 0 where
+-- A string begins here and is refused behind some characters, in a text of n bytes of which `left` are left there.
+pub record IsCut (n : ℕ) (bs : List ℕ) (refusal : Refusal) : Type 0 where
   pub characters : List ℕ
   pub inside : List ℕ
   pub left : List ℕ
   pub spells : SpellsChars characters inside
   pub begins : bs ≡ 34 ∷ (inside ++ left)
-  pub place : refusal.at ≡ at + 1 + length inside
+  pub place : refusal.at + length left ≡ n
   pub stops : StopsString refusal.why left
+
+-- Inside a string: the longest bytes that stand for characters, the UTF-8 of these, and what is left behind them.
+pub record IsInside (bs content left : List ℕ) : Type 0 where
+  pub characters : List ℕ
+  pub inside : List ℕ
+  pub parts : bs ≡ inside ++ left
+  pub spells : SpellsChars characters inside
+  pub content_is : content ≡ encode_utf8_all characters
+  pub longest : HasNoChar left

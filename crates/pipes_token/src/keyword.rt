@@ -1,5 +1,6 @@
 // The words that can't name a source.
-ghost use Rattle.std.specs.Prelude.{◌≡◌};
+ghost use Rattle.std.specs.Prelude.{◌≡◌, find};
+ghost use Rattle.std.specs.Str.{bytes_eq};
 ghost use Rattle.pipes_token.specs.Keywords.{keyword_text};
 
 /// A word that can't name a source.
@@ -120,4 +121,53 @@ impl Keyword {
             Keyword::Drain => "drain",
         }
     }
+}
+
+/// All keywords.
+pub const KEYWORDS: [Keyword; 35] = [
+    Keyword::Source,
+    Keyword::From,
+    Keyword::Window,
+    Keyword::Time,
+    Keyword::Count,
+    Keyword::Int,
+    Keyword::Text,
+    Keyword::Flag,
+    Keyword::Plan,
+    Keyword::Filter,
+    Keyword::Map,
+    Keyword::Union,
+    Keyword::Join,
+    Keyword::Distinct,
+    Keyword::Group,
+    Keyword::Minus,
+    Keyword::Sum,
+    Keyword::Min,
+    Keyword::Max,
+    Keyword::Avg,
+    Keyword::True,
+    Keyword::False,
+    Keyword::And,
+    Keyword::Or,
+    Keyword::Not,
+    Keyword::Step,
+    Keyword::Back,
+    Keyword::At,
+    Keyword::Top,
+    Keyword::With,
+    Keyword::Feed,
+    Keyword::Rest,
+    Keyword::Await,
+    Keyword::Migrate,
+    Keyword::Drain,
+];
+
+// The keyword among these that the word spells.
+pub(crate) fn find_word(keywords: &[Keyword], word: &[u8]) -> Option<Keyword>
+    ensures { result ≡ find (λ keyword. bytes_eq (keyword_text keyword) word.now) keywords.now }
+{
+    keywords
+        .iter()
+        .copied()
+        .find(|keyword| keyword.text().as_bytes() == word)
 }

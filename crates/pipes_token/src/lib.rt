@@ -1,13 +1,19 @@
 //! The tokens of a text: of a query, of a script, of a derivation.
 #![tactic(auto)]
 
+mod bytes;
+mod gap;
 mod keyword;
 mod lex;
 mod place;
+mod quoted;
+mod read;
 mod refusal;
+#[cfg(test)]
+mod tests;
 mod token;
 
-pub use keyword::Keyword;
+pub use keyword::{KEYWORDS, Keyword};
 pub use lex::tokens;
 pub use place::{LONGEST_FILE, tell};
 pub use refusal::{ReadFault, Refusal, TextRefusal, TextWhy};

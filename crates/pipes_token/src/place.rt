@@ -9,13 +9,12 @@ use crate::{Refusal, TextRefusal};
 /// The most bytes that a text has.
 pub const LONGEST_FILE: usize = 1_048_576;
 
-/// The refusal with its place told by line and column. The place may be that behind the last byte.
+/// The refusal with its place told by line and column. Each place from the end on is that behind the last byte.
 pub fn tell(bytes: &[u8], refusal: Refusal) -> TextRefusal
-    requires place { refusal.at ≤ length bytes.now }
-    requires bound { length bytes.now ≤ LONGEST_FILE }
+    requires { length bytes.now ≤ LONGEST_FILE }
     ensures { result ≡ told bytes.now refusal }
 {
-    let front = &bytes[..refusal.at];
+    let front = &bytes[..refusal.at.min(bytes.len())];
     TextRefusal {
         line: line_feeds(front) as u32 + 1,
         column: last_line_len(front) as u32 + 1,

@@ -37,7 +37,7 @@ pub enum Sign {
 }
 
 /// What a token is. The last one of a text is `Long`, `Cut`, `Byte` or `End`, and no other is.
-#[derive(Debug, Drop)]
+#[derive(Debug, Drop, PartialEq, Eq)]
 pub enum TokenKind {
     /// A sign.
     Sign(Sign),
@@ -60,7 +60,7 @@ pub enum TokenKind {
 }
 
 /// What stands at a place of a text.
-#[derive(Debug, Drop)]
+#[derive(Debug, Drop, PartialEq, Eq)]
 pub struct Token {
     /// The place of its first byte, counted in bytes from the start of the text.
     pub at: usize,

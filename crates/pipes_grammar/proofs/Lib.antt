@@ -1,0 +1,14 @@
+pub mod Entries
+pub mod TokenLists
+pub mod Readers
+pub mod Layers
+pub mod Depths
+pub mod Leaves
+pub mod Expressions
+pub mod Wholes
+pub mod WholeExprs
+pub mod ListReaders
+pub mod EntryReaders
+pub mod NodeReaders
+pub mod PlanLevels
+pub mod WholePlans

@@ -1,0 +1,134 @@
+-- Readers with a limit of levels, from the first token of a whole on.
+use Rattle.std.proofs.Common.{◌≡◌, ℕ, Option, Some, List, [], ◌∷◌, ◌++◌, Result, Ok, Err, refl, sym, ap, subst, ◌∙◌, append_assoc, ◌⊎◌, inl, inr}
+use Rattle.std.proofs.lemmas.List.{append-nil}
+use Rattle.pipes_token.specs.declared.refusal.Refusal.{Refusal}
+use Rattle.pipes_token.specs.declared.refusal.TextWhy.TheVariants as why
+use Rattle.pipes_token.specs.declared.token.TokenKind.{TokenKind}
+use Rattle.pipes_token.specs.declared.token.TokenKind.TheVariants.{Byte, End}
+use Rattle.pipes_token.specs.declared.token.Token.{Token}
+use Rattle.pipes_grammar.specs.Grammar.{IsExpr}
+use Rattle.pipes_grammar.specs.Limits.{IsExprText}
+use Rattle.pipes_grammar.specs.Reading.{Reads, kinds_of, Front, done, refusal, run_out, refused_as, place_of, too_deep}
+use Rattle.pipes_grammar.specs.Places.{Begins, FirstPlace, RunsOut, IsTooDeep}
+use Rattle.pipes_grammar.proofs.TokenLists.{kinds-append, tokens_of, kinds-tokens}
+use Rattle.pipes_grammar.proofs.Readers.{AtToken, there, Ends, here, in_expr, deep, Stops, Refuses, IsReader}
+use Rattle.pipes_grammar.proofs.Layers.{token, at_refused}
+
+-- ---- where no level is left
+
+deep_stops : {A : Type 0} (Exprs : Type 0) (whole : ℕ) (Is : A → List TokenKind → Type 0) (k : TokenKind) (at : ℕ) (ts : List Token) (r : Refusal)
+    → Begins Is [] → refused_as (refusal whole why.Deep) k at ≡ r → Stops Exprs (Some whole) Is (λ us. Err (too_deep whole us)) (token at k ∷ ts) r
+unfolding too_deep
+deep_stops {A} Exprs whole Is k at ts r some e = record {
+  before = [];
+  refused = token at k;
+  after = ts;
+  parts = refl;
+  begins = some;
+  stands = λ other. ap (λ (z : Refusal). Err z) e;
+  ends = ends k r e;
+}
+  where
+    read : Reads A
+    read us = Err (too_deep whole us)
+
+    ends : (j : TokenKind) (d : Refusal) → refused_as (refusal whole why.Deep) j at ≡ d → Ends Exprs (Some whole) read [] (token at j) d
+    ends Byte d h = here (subst (λ (z : Refusal). AtToken (token at Byte) z) h (at_refused Byte at))
+    ends End d h = here (subst (λ (z : Refusal). AtToken (token at End) z) h (at_refused End at))
+    ends _ d h = deep whole refl (sym h) (λ other. refl)
+
+pub reads_no_level : {A : Type 0} (Begun Exprs : Type 0) (whole : ℕ) (Is IsW : A → List TokenKind → Type 0) → ((x : A) (ks : List TokenKind) → IsW x ks → ⊥)
+    → (Begun → Begins Is []) → IsReader Begun Exprs (Some whole) Is IsW (λ ts. Err (too_deep whole ts))
+unfolding too_deep
+reads_no_level {A} Begun Exprs whole Is IsW bar some = record {
+  found = λ ts x rest e. absurd cc;
+  only = λ x front rest is. absurd (bar x (kinds_of front) is);
+  wider = λ x ks is. absurd (bar x ks is);
+  some = some;
+  first = λ b ts r e. stops b ts r (same ts r e);
+}
+  where
+    failing : Refusal → Result (A × List Token) Refusal
+    failing r = Err r
+
+    same : (ts : List Token) (r : Refusal) → failing (too_deep whole ts) ≡ failing r → too_deep whole ts ≡ r
+    same ts r e = cc
+
+    stops : Begun → (ts : List Token) (r : Refusal) → too_deep whole ts ≡ r → Refuses Exprs (Some whole) Is (λ us. Err (too_deep whole us)) ts r
+    stops b [] r e = inl (record { is_end = sym e; begins = some b })
+    stops b (t ∷ ts) r e = inr (deep_stops Exprs whole Is t.kind t.at ts r (some b) e)
+
+-- ---- a whole
+
+-- where the place of a whole's refusal is
+pub data WholePlace {A : Type 0} (Exprs : Type 0) (Is IsW : A → List TokenKind → Type 0) (before : List Token) (t : Token) (r : Refusal) : Type 0 where
+  on_token : AtToken t r → WholePlace Exprs Is IsW before t r
+  in_inner : Exprs → (outside within : List Token) → before ≡ outside ++ within → IsTooDeep IsExpr IsExprText within t r → WholePlace Exprs Is IsW before t r
+  in_whole : IsTooDeep Is IsW before t r → WholePlace Exprs Is IsW before t r
+
+place-before : (before : List Token) (t : Token) (one other : List Token) → place_of (before ++ (t ∷ one)) ≡ place_of (before ++ (t ∷ other))
+place-before [] t one other = refl
+place-before (u ∷ before) t one other = refl
+
+module _ {A : Type 0} (Begun Exprs : Type 0) (Is IsW : A → List TokenKind → Type 0) (within : ℕ → Reads A)
+    (reads : (whole : ℕ) → IsReader Begun Exprs (Some whole) Is IsW (within whole)) where
+  abbrev pub parse : Reads A
+  parse ts = within (place_of ts) ts
+
+  -- nothing within the limits begins so
+  barred : (whole : ℕ) (before : List Token) (r : List Token → Refusal) → ((other : List Token) → within whole (before ++ other) ≡ Err (r other))
+      → Begins IsW (kinds_of before) → ⊥
+  barred whole before r stands (x, more, is) =
+      let kinds : kinds_of before ++ more ≡ kinds_of (before ++ tokens_of more) =
+      ap (λ (z : List TokenKind). kinds_of before ++ z) (sym (kinds-tokens more)) ∙ sym (kinds-append before (tokens_of more)) in
+      let given : within whole ((before ++ tokens_of more) ++ []) ≡ Ok (x, []) =
+      (reads whole).only x (before ++ tokens_of more) [] (subst (λ (z : List TokenKind). IsW x z) kinds is) in
+      let refused : within whole ((before ++ tokens_of more) ++ []) ≡ Err (r (tokens_of more)) =
+      ap (λ (z : List Token). within whole z) (append-nil (before ++ tokens_of more)) ∙ stands (tokens_of more) in
+      apart x [] (r (tokens_of more)) (sym given ∙ refused)
+    where
+      apart : (x : A) (rest : List Token) (d : Refusal) → done x rest ≡ Err d → ⊥
+      apart x rest d e = cc
+
+  pub whole_first : Begun → (ts : List Token) (r : Refusal) → parse ts ≡ Err r → RunsOut Is ts r ⊎ FirstPlace Is IsW (WholePlace Exprs Is IsW) parse ts r
+  whole_first b ts r e = told ((reads (place_of ts)).first b ts r e)
+    where
+      told : Refuses Exprs (Some (place_of ts)) Is (within (place_of ts)) ts r → RunsOut Is ts r ⊎ FirstPlace Is IsW (WholePlace Exprs Is IsW) parse ts r
+      told (inl out) = inl out
+      told (inr s) = inr (record {
+        before = s.before;
+        refused = s.refused;
+        after = s.after;
+        parts = s.parts;
+        begins = s.begins;
+        ends = barred (place_of ts) (s.before ++ (s.refused ∷ [])) (λ other. r)
+            (λ other. ap (λ (z : List Token). within (place_of ts) z) (append_assoc s.before (s.refused ∷ []) other) ∙ s.stands other);
+        stands = λ other. ap (λ (n : ℕ). within n (s.before ++ (s.refused ∷ other))) (starts other) ∙ s.stands other;
+        place = place s.before s.refused (starts []) s.begins s.ends;
+      })
+        where
+          starts : (other : List Token) → place_of (s.before ++ (s.refused ∷ other)) ≡ place_of ts
+          starts other = place-before s.before s.refused other s.after ∙ ap place_of (sym s.parts)
+
+          same : (n : ℕ) → Some (place_of ts) ≡ Some n → place_of ts ≡ n
+          same n e = cc
+
+          place : (before : List Token) (t : Token) → place_of (before ++ (t ∷ [])) ≡ place_of ts → Begins Is (kinds_of before)
+              → Ends Exprs (Some (place_of ts)) (within (place_of ts)) before t r → WholePlace Exprs Is IsW before t r
+          place before t start begins (here h) = on_token h
+          place before t start begins (in_expr q outside inner parts d) = in_inner q outside inner parts d
+          place before t start begins (deep n whole is h) = in_whole (record {
+            is_deep = is ∙ ap (λ (m : ℕ). refusal m why.Deep) (sym (same n whole) ∙ sym start);
+            begins = begins;
+            none = barred (place_of ts) before (λ other. too_deep n other) h;
+          })
+
+  pub whole_found : (ts : List Token) (x : A) (rest : List Token) → parse ts ≡ Ok (x, rest) → Front IsW x ts rest
+  whole_found ts x rest e = (reads (place_of ts)).found ts x rest e
+
+  pub whole_only : (x : A) (front rest : List Token) → IsW x (kinds_of front) → parse (front ++ rest) ≡ Ok (x, rest)
+  whole_only x front rest is = (reads (place_of (front ++ rest))).only x front rest is
+
+  -- what is read of a text that begins with a sentence
+  pub whole_front : (x : A) (ts rest : List Token) → Front IsW x ts rest → parse ts ≡ Ok (x, rest)
+  whole_front x ts rest (front, is, parts) = ap parse parts ∙ whole_only x front rest is

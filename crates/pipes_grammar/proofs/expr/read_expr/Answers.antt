@@ -1,0 +1,7 @@
+use Rattle.std.proofs.Common.{subst}
+use Rattle.pipes_grammar.specs.Reading.{Gives}
+use Rattle.pipes_grammar.proofs.WholeExprs.{expr_front}
+use Rattle.pipes_grammar.proofs.expr.read_expr.Goals as goal
+
+pub returns-clause-only : goal.returns-clause-only
+returns-clause-only c e rest h = subst (λ r. Gives (λ x. (x.0, x.1.now)) c.parse_expr.result r) (expr_front e c.args.tokens.now rest h) c.parse_expr.ensures

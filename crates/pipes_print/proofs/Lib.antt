@@ -1,0 +1,4 @@
+pub mod ExprPrinting
+pub mod ListPrinting
+pub mod PlanPrinting
+pub mod Again

@@ -1,0 +1,3 @@
+pub mod ExprText
+pub mod PlanText
+pub mod Printed

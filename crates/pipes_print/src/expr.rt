@@ -1,0 +1,101 @@
+// Expressions.
+ghost use Rattle.std.specs.Prelude.{◌≡◌, ◌++◌, List, OnOk, OnErr, codes};
+ghost use Rattle.pipes_token.specs.declared.token.TokenKind.{TokenKind as AKind};
+ghost use Rattle.pipes_grammar.specs.Limits.{IsExprText, AreExprsText};
+ghost use Rattle.pipes_print.specs.ExprText.{op_text, sides_text, expr_text, list_text};
+ghost use Rattle.pipes_print.specs.Printed.{AreSpelled, ExprPrinted, ExprsPrinted};
+
+use crate::list::{Entry, push_list};
+use crate::piece::{push, push_number, push_value};
+use pipes_grammar::Op;
+use pipes_plan::Expr;
+use pipes_time::Memory;
+use pipes_tuple::Value;
+
+/// Appends the text of the expression. After want of memory `out` is as before.
+pub fn print_expr(expr: &Expr, out: &mut Vec<u8>) -> Result<(), Memory>
+    ensures ok { OnOk result (out.new.items ≡ out.old.items ++ expr_text expr.now) }
+    ensures err { OnErr result (out.new.items ≡ out.old.items) }
+    ensures read_back { (kinds : List AKind) → IsExprText expr.now kinds → AreSpelled kinds → ExprPrinted expr.now }
+{
+    let mut text = Vec::new(*out.allocator());
+    push_expr(expr, &mut text)?;
+    push(text.as_slice(), out)
+}
+
+/// Appends the text of the list of expressions, in brackets. After want of memory `out` is as before.
+pub fn print_exprs(exprs: &[Expr], out: &mut Vec<u8>) -> Result<(), Memory>
+    ensures ok { OnOk result (out.new.items ≡ out.old.items ++ list_text expr_text exprs.now) }
+    ensures err { OnErr result (out.new.items ≡ out.old.items) }
+    ensures read_back { (kinds : List AKind) → AreExprsText exprs.now kinds → AreSpelled kinds → ExprsPrinted exprs.now }
+{
+    let mut text = Vec::new(*out.allocator());
+    push_list(exprs, &mut text)?;
+    push(text.as_slice(), out)
+}
+
+impl Entry for Expr {
+    ghost use Rattle.pipes_print.specs.ExprText.{expr_text};
+
+    ghost text = { expr_text };
+
+    fn push_to(&self, out: &mut Vec<u8>) -> Result<(), Memory> {
+        push_expr(self, out)
+    }
+}
+
+// Appends the text of the expression.
+#[cycle(push)]
+pub(crate) fn push_expr(expr: &Expr, out: &mut Vec<u8>) -> Result<(), Memory>
+    ensures { OnOk result (out.new.items ≡ out.old.items ++ expr_text expr.now) }
+{
+    match expr {
+        Expr::Col(column) => {
+            push(b"$", out)?;
+            push_number(*column, out)
+        }
+        Expr::Int(number) => push_value(&Value::Int(*number), out),
+        Expr::Text(text) => push_value(&Value::Text(text.copy()?), out),
+        Expr::Flag(flag) => push_value(&Value::Flag(*flag), out),
+        Expr::Add(a, b) => push_sides(a.get(), Op::Add, b.get(), out),
+        Expr::Sub(a, b) => push_sides(a.get(), Op::Sub, b.get(), out),
+        Expr::Mul(a, b) => push_sides(a.get(), Op::Mul, b.get(), out),
+        Expr::Eq(a, b) => push_sides(a.get(), Op::Eq, b.get(), out),
+        Expr::Lt(a, b) => push_sides(a.get(), Op::Lt, b.get(), out),
+        Expr::Le(a, b) => push_sides(a.get(), Op::Le, b.get(), out),
+        Expr::And(a, b) => push_sides(a.get(), Op::And, b.get(), out),
+        Expr::Or(a, b) => push_sides(a.get(), Op::Or, b.get(), out),
+        Expr::Not(a) => {
+            push(b"not ", out)?;
+            push_expr(a.get(), out)
+        }
+    }
+}
+
+// Appends two sides in brackets.
+#[cycle(push)]
+fn push_sides(a: &Expr, op: Op, b: &Expr, out: &mut Vec<u8>) -> Result<(), Memory>
+    ensures { OnOk result (out.new.items ≡ out.old.items ++ sides_text op (expr_text a.now) (expr_text b.now)) }
+{
+    push(b"(", out)?;
+    push_expr(a, out)?;
+    push(between(op), out)?;
+    push_expr(b, out)?;
+    push(b")", out)
+}
+
+// What stands between the two sides.
+fn between(op: Op) -> &'static [u8]
+    ensures { result.now ≡ op_text op }
+{
+    match op {
+        Op::Add => b" + ",
+        Op::Sub => b" - ",
+        Op::Mul => b" * ",
+        Op::Eq => b" = ",
+        Op::Lt => b" < ",
+        Op::Le => b" <= ",
+        Op::And => b" and ",
+        Op::Or => b" or ",
+    }
+}

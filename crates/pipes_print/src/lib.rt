@@ -1,0 +1,10 @@
+//! Printing of expressions and plans, so that what is printed is read back.
+#![tactic(auto)]
+
+mod expr;
+mod list;
+mod piece;
+mod plan;
+
+pub use expr::{print_expr, print_exprs};
+pub use plan::print_plan;

@@ -1,0 +1,104 @@
+// Lists of entries.
+ghost use Rattle.std.specs.Prelude.{◌≡◌, ◌++◌, List, ℕ, OnOk, codes};
+ghost use Rattle.std.specs.Fmt.{decimal};
+ghost use Rattle.std.specs.List.{flat_map};
+ghost use Rattle.pipes_print.specs.ExprText.{entries_text, list_text};
+
+use crate::piece::{push, push_number};
+use pipes_plan::{Agg, Pair};
+use pipes_time::Memory;
+
+// What has a text of its own in a list.
+pub(crate) trait Entry {
+    ghost text: { Self → List ℕ };
+
+    // Appends the text.
+    fn push_to(&self, out: &mut Vec<u8>) -> Result<(), Memory>
+        ensures { OnOk result (out.new.items ≡ out.old.items ++ text self.now) };
+}
+
+impl Entry for u32 {
+    ghost use Rattle.std.specs.Fmt.{decimal};
+
+    ghost text = { decimal };
+
+    fn push_to(&self, out: &mut Vec<u8>) -> Result<(), Memory> {
+        push_number(*self, out)
+    }
+}
+
+impl Entry for Pair {
+    ghost use Rattle.pipes_print.specs.PlanText.{pair_text};
+
+    ghost text = { pair_text };
+
+    fn push_to(&self, out: &mut Vec<u8>) -> Result<(), Memory> {
+        push_number(self.left, out)?;
+        push(b"=", out)?;
+        push_number(self.right, out)
+    }
+}
+
+impl Entry for Agg {
+    ghost use Rattle.pipes_print.specs.PlanText.{agg_text};
+
+    ghost text = { agg_text };
+
+    fn push_to(&self, out: &mut Vec<u8>) -> Result<(), Memory> {
+        match self {
+            Agg::Count => push(b"count", out),
+            Agg::Sum(column) => push_word(b"sum ", *column, out),
+            Agg::Min(column) => push_word(b"min ", *column, out),
+            Agg::Max(column) => push_word(b"max ", *column, out),
+            Agg::Avg(column) => push_word(b"avg ", *column, out),
+        }
+    }
+}
+
+// Appends a word and a number.
+fn push_word(word: &[u8], number: u32, out: &mut Vec<u8>) -> Result<(), Memory>
+    ensures { OnOk result (out.new.items ≡ out.old.items ++ (word.now ++ decimal number)) }
+{
+    push(word, out)?;
+    push_number(number, out)
+}
+
+// Appends the list in brackets.
+pub(crate) fn push_list<T: Entry>(entries: &[T], out: &mut Vec<u8>) -> Result<(), Memory>
+    ensures { OnOk result (out.new.items ≡ out.old.items ++ list_text T.text entries.now) }
+{
+    push(b"[", out)?;
+    push_entries(entries, out)?;
+    push(b"]", out)
+}
+
+// Appends the entries.
+fn push_entries<T: Entry>(entries: &[T], out: &mut Vec<u8>) -> Result<(), Memory>
+    ensures { OnOk result (out.new.items ≡ out.old.items ++ entries_text T.text entries.now) }
+{
+    match entries {
+        [] => Ok(()),
+        [first, others @ ..] => {
+            first.push_to(out)?;
+            push_others(others, out)
+        }
+    }
+}
+
+// Appends the entries, each behind a comma.
+fn push_others<T: Entry>(entries: &[T], out: &mut Vec<u8>) -> Result<(), Memory>
+    ensures { OnOk result (out.new.items ≡ out.old.items ++ flat_map (λ entry. codes ", " ++ T.text entry) entries.now) }
+{
+    for entry in entries {
+        push_next(entry, out)?;
+    }
+    Ok(())
+}
+
+// Appends the entry behind a comma.
+fn push_next<T: Entry>(entry: &T, out: &mut Vec<u8>) -> Result<(), Memory>
+    ensures { OnOk result (out.new.items ≡ out.old.items ++ (codes ", " ++ T.text entry.now)) }
+{
+    push(b", ", out)?;
+    entry.push_to(out)
+}

@@ -1,0 +1,102 @@
+// Plans.
+ghost use Rattle.std.specs.Prelude.{◌≡◌, ◌++◌, List, OnOk, OnErr, codes, map};
+ghost use Rattle.pipes_token.specs.declared.token.TokenKind.{TokenKind as AKind};
+ghost use Rattle.pipes_grammar.specs.Limits.{IsPlanText};
+ghost use Rattle.pipes_print.specs.ExprText.{expr_text};
+ghost use Rattle.pipes_print.specs.PlanText.{source_text, plan_text};
+ghost use Rattle.pipes_print.specs.Printed.{AreSpelled, PlanPrinted};
+
+use crate::expr::push_expr;
+use crate::list::push_list;
+use crate::piece::push;
+use pipes_plan::Plan;
+use pipes_time::Memory;
+use pipes_tuple::Text;
+
+/// Appends the text of the plan over sources with these names, in order. After want of memory `out` is as before.
+pub fn print_plan(names: &[Text], plan: &Plan, out: &mut Vec<u8>) -> Result<(), Memory>
+    ensures ok { OnOk result (out.new.items ≡ out.old.items ++ plan_text names.now plan.now) }
+    ensures err { OnErr result (out.new.items ≡ out.old.items) }
+    ensures read_back { (kinds : List AKind) → IsPlanText names.now plan.now kinds → AreSpelled kinds → PlanPrinted names.now plan.now }
+{
+    let mut text = Vec::new(*out.allocator());
+    push_plan(names, plan, &mut text)?;
+    push(text.as_slice(), out)
+}
+
+// Appends the text of the plan.
+#[cycle(push)]
+fn push_plan(names: &[Text], plan: &Plan, out: &mut Vec<u8>) -> Result<(), Memory>
+    ensures { OnOk result (out.new.items ≡ out.old.items ++ plan_text names.now plan.now) }
+{
+    match plan {
+        Plan::Source(source) => push_source(names, *source, out),
+        Plan::Filter(condition, a) => {
+            push(b"filter(", out)?;
+            push_expr(condition, out)?;
+            push_last(names, a.get(), out)
+        }
+        Plan::Map(exprs, a) => {
+            push(b"map(", out)?;
+            push_list(exprs.as_slice(), out)?;
+            push_last(names, a.get(), out)
+        }
+        Plan::Union(a, b) => {
+            push(b"union(", out)?;
+            push_both(names, a.get(), b.get(), out)
+        }
+        Plan::Join(pairs, condition, a, b) => {
+            push(b"join(", out)?;
+            push_list(pairs.as_slice(), out)?;
+            push(b", ", out)?;
+            push_expr(condition, out)?;
+            push(b", ", out)?;
+            push_both(names, a.get(), b.get(), out)
+        }
+        Plan::Distinct(a) => {
+            push(b"distinct(", out)?;
+            push_plan(names, a.get(), out)?;
+            push(b")", out)
+        }
+        Plan::Group(columns, aggs, a) => {
+            push(b"group(", out)?;
+            push_list(columns.as_slice(), out)?;
+            push(b", ", out)?;
+            push_list(aggs.as_slice(), out)?;
+            push_last(names, a.get(), out)
+        }
+        Plan::Minus(a, b) => {
+            push(b"minus(", out)?;
+            push_both(names, a.get(), b.get(), out)
+        }
+    }
+}
+
+// Appends the last plan of a node, behind a comma.
+#[cycle(push)]
+fn push_last(names: &[Text], plan: &Plan, out: &mut Vec<u8>) -> Result<(), Memory>
+    ensures { OnOk result (out.new.items ≡ out.old.items ++ (codes ", " ++ (plan_text names.now plan.now ++ codes ")"))) }
+{
+    push(b", ", out)?;
+    push_plan(names, plan, out)?;
+    push(b")", out)
+}
+
+// Appends the two plans of a node.
+#[cycle(push)]
+fn push_both(names: &[Text], a: &Plan, b: &Plan, out: &mut Vec<u8>) -> Result<(), Memory>
+    ensures { OnOk result (out.new.items ≡ out.old.items ++ (plan_text names.now a.now ++ (codes ", " ++ (plan_text names.now b.now ++ codes ")")))) }
+{
+    push_plan(names, a, out)?;
+    push_last(names, b, out)
+}
+
+// Appends the name of the source.
+fn push_source(names: &[Text], source: u32, out: &mut Vec<u8>) -> Result<(), Memory>
+    ensures { OnOk result (out.new.items ≡ out.old.items ++ source_text names.now source) }
+{
+    match names.get(source as usize) {
+        Some(name) => push(name.as_str().as_bytes(), out),
+        None => Ok(()),
+    }
+}

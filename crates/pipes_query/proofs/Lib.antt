@@ -1,0 +1,11 @@
+pub mod Loops
+pub mod Turns
+pub mod Fresh
+pub mod Tokens
+pub mod ColumnLaws
+pub mod SourceLaws
+pub mod QueryLaws
+pub mod Unended
+pub mod WholeLaws
+pub mod TextLaws
+pub mod PrintLaws
