@@ -1,6 +1,6 @@
 -- What a token is, by its first byte and its bytes: there is one kind alone that they spell.
-use Rattle.std.proofs.Common.{◌≡◌, ◌≢◌, ℕ, ◌+◌, ◌-◌, ◌^◌, ◌<◌, ◌≤◌, min, Bool, true, false, cond, not, ◌&&◌, ◌||◌, List, [], ◌∷◌, ◌++◌, length, Option, Some, None, refl, sym, ap, subst, true≢false, ◌∙◌, arith, inl, inr, ◌⊎◌, nat_lt, nat_le}
-use Rattle.std.specs.Prelude.{◌==◌, codes, if◌then◌else◌}
+use Rattle.std.proofs.Common.{◌≡◌, ℕ, ◌-◌, ◌^◌, ◌≤◌, min, Bool, true, false, cond, ◌&&◌, List, [], ◌∷◌, ◌++◌, length, Option, Some, None, refl, sym, ap, subst, true≢false, ◌∙◌, arith, inl, inr, ◌⊎◌, nat_lt, nat_le}
+use Rattle.std.specs.Prelude.{◌==◌, if◌then◌else◌}
 use Rattle.std.specs.Char.{is_ascii_lowercase, is_ascii_digit}
 use Rattle.std.specs.List.{list_all, find}
 use Rattle.std.specs.Str.{bytes_eq}
@@ -144,12 +144,12 @@ same_sign s t e = sym (sign_again s) ∙ ap sign_of e ∙ sign_again t
 find_passes : (test : AKeyword → Bool) (keywords : List AKeyword) (k : AKeyword) → find test keywords ≡ Some k → test k ≡ true
 find_passes test [] k e = absurd cc
 find_passes test (l ∷ keywords) k e = elim (cases_Bool (test l)) [
-    | inl good ↦
-        let found : Some l ≡ Some k = sym (cond-true (test l) (Some l) (find test keywords) good) ∙ e in
-        let same : l ≡ k = cc in
-        subst (λ (x : AKeyword). test x ≡ true) same good
-    | inr bad ↦ find_passes test keywords k (sym (cond-false (test l) (Some l) (find test keywords) bad) ∙ e)
-  ]
+  | inl good ↦
+      let found : Some l ≡ Some k = sym (cond-true (test l) (Some l) (find test keywords) good) ∙ e in
+      let same : l ≡ k = cc in
+      subst (λ (x : AKeyword). test x ≡ true) same good
+  | inr bad ↦ find_passes test keywords k (sym (cond-false (test l) (Some l) (find test keywords) bad) ∙ e)
+]
 
 pub keyword_found : (w : List ℕ) (k : AKeyword) → keyword_of w ≡ Some k → w ≡ keyword_text k
 unfolding keyword_of

@@ -1,5 +1,5 @@
 -- What stands for characters inside strings can be read in one way alone.
-use Rattle.std.proofs.Common.{◌≡◌, ◌≢◌, ℕ, ◌+◌, ◌<◌, ◌≤◌, Bool, true, false, List, [], ◌∷◌, ◌++◌, length, get_or, Option, Some, None, refl, sym, ap, subst, true≢false, ◌∙◌, ap₂, append_assoc, arith}
+use Rattle.std.proofs.Common.{◌≡◌, ◌≢◌, ℕ, ◌<◌, ◌≤◌, true, false, List, [], ◌∷◌, ◌++◌, length, Some, None, refl, sym, ap, subst, true≢false, ◌∙◌, ap₂, append_assoc, arith}
 use Rattle.std.proofs.lemmas.Str.{encode_same, char_from_byte, len_utf8_bounds, length-encode}
 use Rattle.std.specs.Char.{IsScalar, encode_utf8}
 use Rattle.std.specs.Str.{IsUtf8}
@@ -7,7 +7,7 @@ use Rattle.std.proofs.Math.Utf8.{low_scalar}
 use Rattle.std.proofs.lemmas.Str.{encode_ascii, IsUtf8-encode}
 use Rattle.std.proofs.lemmas.Bool.{cases_lt, ne_eqb}
 use Rattle.std.proofs.lemmas.List.{drop_at, take_at, take-take}
-use Rattle.std.proofs.Common.{min, take, drop, take-append-drop, length-take, length-append, inl, inr, ◌==◌}
+use Rattle.std.proofs.Common.{min, take, drop, take-append-drop, length-take, length-append, inl, inr}
 use Rattle.pipes_token.specs.declared.refusal.TextWhy.{TextWhy}
 use Rattle.pipes_token.specs.Strings.{SpellsChar, itself, escape, SpellsChars, BeginsChar, IsInside, HasNoChar, StopsString, is_plain, escaped_by}
 
@@ -116,11 +116,11 @@ IsWide bytes = (b : ℕ) (bs : List ℕ) → bytes ≡ b ∷ bs → 128 ≤ b
 
 wide_plain : (c : ℕ) (more bytes : List ℕ) → bytes ≡ encode_utf8 c ++ more → IsWide bytes → is_plain c ≡ true
 wide_plain c more bytes e wide = elim (cases_lt c 128) [
-    | inl low ↦
-        let first : bytes ≡ c ∷ more = e ∙ ap (λ (x : List ℕ). x ++ more) (encode_ascii c low) in
-        absurd (omega (arith, wide c more first, low))
-    | inr high ↦ is_plain_from c (λ f. omega arith) (λ f. omega arith) (λ f. omega arith)
-  ]
+  | inl low ↦
+      let first : bytes ≡ c ∷ more = e ∙ ap (λ (x : List ℕ). x ++ more) (encode_ascii c low) in
+      absurd (omega (arith, wide c more first, low))
+  | inr high ↦ is_plain_from c (λ f. omega arith) (λ f. omega arith) (λ f. omega arith)
+]
 
 front_of : (front bytes : List ℕ) (n : ℕ) → front ≡ take (length front) (take n bytes) → bytes ≡ front ++ (drop (length front) (take n bytes) ++ drop n bytes)
 front_of front bytes n e =
@@ -151,12 +151,13 @@ wide_none n bytes e none wide c front more f (escape x q r) =
 
 pub inside_more : (c : ℕ) (rest behind content left : List ℕ) → BeginsChar rest c behind → IsInside behind content left → IsInside rest (encode_utf8 c ++ content) left
 inside_more c rest behind content left b p = record {
-    characters = c ∷ p.characters;
-    inside = b.front ++ p.inside;
-    parts = b.parts ∙ ap (λ (x : List ℕ). b.front ++ x) p.parts ∙ sym (append_assoc b.front p.inside left);
-    spells = (b.front, p.inside, b.spells, refl, p.spells);
-    content_is = ap (λ (x : List ℕ). encode_utf8 c ++ x) p.content_is;
-    longest = p.longest }
+  characters = c ∷ p.characters;
+  inside = b.front ++ p.inside;
+  parts = b.parts ∙ ap (λ (x : List ℕ). b.front ++ x) p.parts ∙ sym (append_assoc b.front p.inside left);
+  spells = (b.front, p.inside, b.spells, refl, p.spells);
+  content_is = ap (λ (x : List ℕ). encode_utf8 c ++ x) p.content_is;
+  longest = p.longest;
+}
 
 pub inside_end : (rest : List ℕ) → HasNoChar rest → IsInside rest [] rest
 inside_end rest h = record { characters = []; inside = []; parts = refl; spells = refl; content_is = refl; longest = h }

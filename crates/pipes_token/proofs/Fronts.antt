@@ -1,5 +1,5 @@
 -- Of two fronts of the same bytes one begins with the other.
-use Rattle.std.proofs.Common.{◌≡◌, ℕ, suc, ◌+◌, ◌<◌, ◌≤◌, List, [], ◌∷◌, ◌++◌, length, refl, sym, ap, ap₂, ◌∙◌, arith}
+use Rattle.std.proofs.Common.{◌≡◌, ℕ, ◌≤◌, List, [], ◌∷◌, ◌++◌, length, refl, sym, ap₂, arith}
 
 -- the longer one's other bytes
 pub record Continues (front longer rest left : List ℕ) : Type 0 where

@@ -1,8 +1,8 @@
 -- Behind the longest gap there is one place alone.
-use Rattle.std.proofs.Common.{◌≡◌, ◌≢◌, ℕ, ◌+◌, ◌<◌, ◌≤◌, Bool, true, false, cond, not, ◌&&◌, List, [], ◌∷◌, ◌++◌, length, refl, sym, ap, subst, true≢false, ◌∙◌, append_assoc, arith, length-append, inl, inr}
+use Rattle.std.proofs.Common.{◌≡◌, ◌≢◌, ℕ, ◌≤◌, Bool, true, false, cond, not, List, [], ◌∷◌, ◌++◌, length, refl, sym, ap, subst, ◌∙◌, append_assoc, arith, length-append}
 use Rattle.std.specs.Prelude.{◌==◌}
 use Rattle.std.specs.List.{list_all}
-use Rattle.std.proofs.lemmas.Bool.{and_parts, not-true, eqb-true, ne_eqb, cases_Bool}
+use Rattle.std.proofs.lemmas.Bool.{and_parts, eqb-true, ne_eqb}
 use Rattle.std.proofs.Common.{drop, take, take-append-drop}
 use Rattle.std.specs.List.{prefix_len}
 use Rattle.std.proofs.lemmas.Bool.{not-false}
@@ -49,10 +49,11 @@ past_separator b bs here s p = record { gap = b ∷ p.gap; parts = ap (λ (x : L
 
 pub past_comment : (line bs here : List ℕ) → list_all is_within_line line ≡ true → EndsLine bs → IsPastGap bs here → IsPastGap (35 ∷ (line ++ bs)) here
 past_comment line bs here l k p = record {
-    gap = 35 ∷ (line ++ p.gap);
-    parts = ap (λ (x : List ℕ). 35 ∷ (line ++ x)) p.parts ∙ ap (λ (x : List ℕ). 35 ∷ x) (sym (append_assoc line p.gap here));
-    is_gap = comment line p.gap _ refl l (subst EndsLine p.parts k) p.is_gap;
-    longest = p.longest }
+  gap = 35 ∷ (line ++ p.gap);
+  parts = ap (λ (x : List ℕ). 35 ∷ (line ++ x)) p.parts ∙ ap (λ (x : List ℕ). 35 ∷ x) (sym (append_assoc line p.gap here));
+  is_gap = comment line p.gap _ refl l (subst EndsLine p.parts k) p.is_gap;
+  longest = p.longest;
+}
 
 pub past_shorter : (bs here : List ℕ) → IsPastGap bs here → length here ≤ length bs
 past_shorter bs here p = omega (arith, ap (λ (x : List ℕ). length x) p.parts, length-append p.gap here)

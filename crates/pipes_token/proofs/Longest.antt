@@ -1,20 +1,17 @@
 -- Which bytes at the front of a text spell a token, and that they are the longest that do.
-use Rattle.std.proofs.Common.{◌≡◌, ◌≢◌, ℕ, ◌+◌, ◌-◌, ◌^◌, ◌<◌, ◌≤◌, min, Bool, true, false, cond, ◌&&◌, List, [], ◌∷◌, ◌++◌, length, take, drop, Option, Some, None, refl, sym, ap, subst, true≢false, ◌∙◌, arith, inl, inr, ◌⊎◌, append_assoc, append-nil, take-append-drop, length-append}
+use Rattle.std.proofs.Common.{◌≡◌, ◌≢◌, ℕ, Bool, true, List, [], ◌∷◌, ◌++◌, length, refl, sym, ap, subst, true≢false, ◌∙◌, arith, inl, inr, ◌⊎◌, append-nil, length-append}
 use Rattle.std.specs.Char.{is_ascii_lowercase, is_ascii_digit}
-use Rattle.std.specs.List.{list_all, prefix_len}
-use Rattle.std.specs.Str.Parse.{digits_value}
-use Rattle.std.proofs.lemmas.Bool.{and_parts, and_from}
+use Rattle.std.specs.List.{list_all}
+use Rattle.std.proofs.lemmas.Bool.{and_parts}
 use Rattle.std.proofs.lemmas.List.{nil_from_length}
 use Rattle.std.proofs.lemmas.List.Folds.{list_all-append}
 use Rattle.pipes_tuple.specs.Reading.{is_numeral}
 use Rattle.pipes_token.specs.declared.token.Sign.{Sign as ASign}
 use Rattle.pipes_token.specs.declared.token.Sign.TheVariants as sign
 use Rattle.pipes_token.specs.declared.token.TokenKind.{TokenKind}
-use Rattle.pipes_token.specs.declared.token.TokenKind.TheVariants.{Sign, Number, Text, Long, Byte, End}
 use Rattle.pipes_token.specs.Strings.{IsString}
-use Rattle.pipes_token.specs.Spelling.{sign_text, is_word_byte, is_word, Spells, IsLongest, BeginsNone}
-use Rattle.pipes_token.specs.Tokens.{Begins, StopsText}
-use Rattle.pipes_token.proofs.Runs.{Stopped, run_passes, run_stops}
+use Rattle.pipes_token.specs.Spelling.{sign_text, is_word_byte, is_word, Spells, IsLongest}
+use Rattle.pipes_token.proofs.Runs.{Stopped}
 use Rattle.pipes_token.proofs.Strings.{same_string}
 use Rattle.pipes_token.proofs.ByFirst.{Class, class_of, a_word, a_number, a_string, a_sign, Of, by_first, first_of_word, first_of_number}
 

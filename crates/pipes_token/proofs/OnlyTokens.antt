@@ -1,5 +1,5 @@
 -- The bytes of a text have one list of tokens alone.
-use Rattle.std.proofs.Common.{◌≡◌, ◌≢◌, ℕ, ◌+◌, ◌<◌, ◌≤◌, List, [], ◌∷◌, ◌++◌, length, refl, sym, ap, ap₂, subst, ◌∙◌, arith, inl, inr, append-nil, ◌⊎◌}
+use Rattle.std.proofs.Common.{◌≡◌, ℕ, List, [], ◌∷◌, ◌++◌, length, refl, sym, ap, ap₂, subst, ◌∙◌, arith, inl, inr, append-nil}
 use Rattle.std.proofs.lemmas.Bool.{cases_lt}
 use Rattle.pipes_token.specs.declared.refusal.Refusal.{Refusal}
 use Rattle.pipes_token.specs.declared.token.TokenKind.{TokenKind}
@@ -22,9 +22,9 @@ longest_by kind other s t x y long spells c =
 
 same_spelling : (kind other : TokenKind) (s t x y : List ℕ) → Spells kind s → Spells other t → IsLongest s x → IsLongest t y → s ++ x ≡ t ++ y → s ≡ t
 same_spelling kind other s t x y p q long wide e = elim (cases_lt (length t) (length s)) [
-    | inl less ↦ sym (longest_by other kind t s y x wide p (continues t s y x (sym e) (omega arith)))
-    | inr more ↦ longest_by kind other s t x y long q (continues s t x y e more)
-  ]
+  | inl less ↦ sym (longest_by other kind t s y x wide p (continues t s y x (sym e) (omega arith)))
+  | inr more ↦ longest_by kind other s t x y long q (continues s t x y e more)
+]
 
 append_same : (s t x y : List ℕ) → s ≡ t → s ++ x ≡ t ++ y → x ≡ y
 append_same [] [] x y p e = e

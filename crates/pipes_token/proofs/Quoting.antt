@@ -1,8 +1,7 @@
 -- A text that is written between quotes is a string with that content.
-use Rattle.std.proofs.Common.{◌≡◌, ◌≢◌, ℕ, ◌+◌, ◌*◌, ◌/◌, ◌%◌, ◌<◌, ◌≤◌, Bool, true, false, cond, List, [], ◌∷◌, ◌++◌, length, Option, Some, None, refl, sym, ap, ap₂, subst, ◌∙◌, arith, inl, inr, ◌⊎◌, append_assoc, append-nil}
-use Rattle.std.specs.Prelude.{◌==◌, codes}
-use Rattle.std.specs.Char.{IsScalar, encode_utf8}
-use Rattle.std.specs.List.{flat_map}
+use Rattle.std.proofs.Common.{◌≡◌, ◌≢◌, ℕ, ◌+◌, ◌/◌, ◌%◌, ◌≤◌, Bool, true, false, cond, List, [], ◌∷◌, ◌++◌, Some, refl, sym, ap, ap₂, subst, ◌∙◌, arith, inl, inr, ◌⊎◌}
+use Rattle.std.specs.Prelude.{◌==◌}
+use Rattle.std.specs.Char.{encode_utf8}
 use Rattle.std.specs.Str.{encode_utf8_all}
 use Rattle.std.proofs.lemmas.Bool.{cases_lt, cases_Bool, ne_eqb, eqb-true, eqb-false, le-ltb}
 use Rattle.std.proofs.lemmas.Bool.Decides.{nat_tests}
@@ -11,8 +10,7 @@ use Rattle.std.proofs.lemmas.List.Concat.{flat_map-append}
 use Rattle.std.proofs.lemmas.Str.{encode_ascii}
 use Rattle.pipes_tuple.specs.Texts.{escaped_byte, escaped, quoted}
 use Rattle.pipes_token.specs.declared.token.TokenKind.TheVariants.{Text}
-use Rattle.pipes_token.specs.Strings.{SpellsChar, itself, escape, SpellsChars, is_plain, escaped_by, IsString}
-use Rattle.pipes_token.specs.Spelling.{Spells}
+use Rattle.pipes_token.specs.Strings.{SpellsChar, itself, escape, SpellsChars, escaped_by, IsString}
 use Rattle.pipes_token.specs.Writing.{WritesFreely, IsSpelled}
 use Rattle.pipes_token.proofs.Writing.{write_string}
 
@@ -26,18 +24,18 @@ pub data HowWritten (c : ℕ) : Type 0 where
 
 how_written : (c : ℕ) → HowWritten c
 how_written c = elim (cases_Bool (c == 34)) [
-    | inl e ↦ is_quote (eqb-true c 34 e)
-    | inr p ↦ elim (cases_Bool (c == 92)) [
-      | inl e ↦ is_backslash (eqb-true c 92 e)
-      | inr q ↦ elim (cases_Bool (c == 10)) [
-        | inl e ↦ is_line_feed (eqb-true c 10 e)
-        | inr r ↦ elim (cases_Bool (c == 13)) [
-          | inl e ↦ is_return (eqb-true c 13 e)
-          | inr s ↦ is_other (λ e. differs c 34 p e) (λ e. differs c 92 q e) (λ e. differs c 10 r e) (λ e. differs c 13 s e)
-        ]
+  | inl e ↦ is_quote (eqb-true c 34 e)
+  | inr p ↦ elim (cases_Bool (c == 92)) [
+    | inl e ↦ is_backslash (eqb-true c 92 e)
+    | inr q ↦ elim (cases_Bool (c == 10)) [
+      | inl e ↦ is_line_feed (eqb-true c 10 e)
+      | inr r ↦ elim (cases_Bool (c == 13)) [
+        | inl e ↦ is_return (eqb-true c 13 e)
+        | inr s ↦ is_other (λ e. differs c 34 p e) (λ e. differs c 92 q e) (λ e. differs c 10 r e) (λ e. differs c 13 s e)
       ]
     ]
   ]
+]
   where
     differs : (a b : ℕ) → (a == b) ≡ false → a ≡ b → ⊥
     differs a b h e = eqb-false a b h e
@@ -68,9 +66,9 @@ wide_high c h = rw (le-ltb c 128 h) (wide_by (ltb c 2048) (ltb c 65536))
 
 other_escaped : (c : ℕ) → c ≢ 34 → c ≢ 92 → c ≢ 10 → c ≢ 13 → escaped (encode_utf8 c) ≡ encode_utf8 c
 other_escaped c h k l m = elim (cases_lt c 128) [
-    | inl low ↦ ap escaped (encode_ascii c low) ∙ ap (λ (x : List ℕ). x ++ []) (stands_alone c h k l m) ∙ sym (encode_ascii c low)
-    | inr high ↦ high_escaped (encode_utf8 c) (wide_high c high)
-  ]
+  | inl low ↦ ap escaped (encode_ascii c low) ∙ ap (λ (x : List ℕ). x ++ []) (stands_alone c h k l m) ∙ sym (encode_ascii c low)
+  | inr high ↦ high_escaped (encode_utf8 c) (wide_high c high)
+]
 
 escape_of : (e c : ℕ) → escaped_by e ≡ Some c → (c ≡ 34) ⊎ ((c ≡ 92) ⊎ ((c ≡ 10) ⊎ (c ≡ 13)))
 escape_of e c h = grind (arith, nat_tests)
@@ -82,11 +80,11 @@ written_char c front s (is_line_feed e) = subst (λ (x : ℕ). SpellsChar x (esc
 written_char c front s (is_return e) = subst (λ (x : ℕ). SpellsChar x (escaped (encode_utf8 x))) (sym e) (escape 114 refl (ap escaped (encode_ascii 13 (omega arith))))
 written_char c front (itself s p f) (is_other h k l m) = itself s p (other_escaped c h k l m)
 written_char c front (escape x p f) (is_other h k l m) = elim (escape_of x c p) [
-    | inl e ↦ absurd (h e)
-    | inr (inl e) ↦ absurd (k e)
-    | inr (inr (inl e)) ↦ absurd (l e)
-    | inr (inr (inr e)) ↦ absurd (m e)
-  ]
+  | inl e ↦ absurd (h e)
+  | inr (inl e) ↦ absurd (k e)
+  | inr (inr (inl e)) ↦ absurd (l e)
+  | inr (inr (inr e)) ↦ absurd (m e)
+]
 
 written_chars : (cs bs : List ℕ) → SpellsChars cs bs → SpellsChars cs (escaped (encode_utf8_all cs))
 written_chars [] bs h = refl
@@ -96,11 +94,12 @@ written_chars (c ∷ cs) bs (front, left, s, e, rest) =
 -- a content of some string
 pub quoted_string : (content bs : List ℕ) → IsString content bs → IsString content (quoted content)
 quoted_string content bs s = record {
-    characters = s.characters;
-    inside = escaped content;
-    content_is = s.content_is;
-    spells = subst (λ (x : List ℕ). SpellsChars s.characters (escaped x)) (sym s.content_is) (written_chars s.characters s.inside s.spells);
-    quoted = refl }
+  characters = s.characters;
+  inside = escaped content;
+  content_is = s.content_is;
+  spells = subst (λ (x : List ℕ). SpellsChars s.characters (escaped x)) (sym s.content_is) (written_chars s.characters s.inside s.spells);
+  quoted = refl;
+}
 
 pub write_quoted : (content : List ℕ) → IsSpelled (Text content) → WritesFreely (Text content ∷ []) (quoted content)
 write_quoted content h = write_string content (quoted content) (quoted_string content h.0 h.1.0) h.1.1

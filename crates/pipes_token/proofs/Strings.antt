@@ -1,9 +1,9 @@
 -- A string, or a refusal inside it, can be read in one way alone.
-use Rattle.std.proofs.Common.{◌≡◌, ◌≢◌, ℕ, ◌+◌, ◌<◌, ◌≤◌, Bool, true, false, List, [], ◌∷◌, ◌++◌, length, refl, sym, ap, subst, ap₂, ◌∙◌, append_assoc, arith}
+use Rattle.std.proofs.Common.{◌≡◌, ℕ, List, [], ◌∷◌, ◌++◌, length, refl, sym, ap, subst, ap₂, ◌∙◌, append_assoc, arith}
 use Rattle.std.specs.Str.{encode_utf8_all}
 use Rattle.pipes_token.specs.declared.refusal.TextWhy.{TextWhy}
 use Rattle.pipes_token.specs.declared.refusal.Refusal.{Refusal}
-use Rattle.pipes_token.specs.Strings.{SpellsChars, HasNoChar, StopsString, IsString, IsCut}
+use Rattle.pipes_token.specs.Strings.{StopsString, IsString, IsCut}
 use Rattle.pipes_token.proofs.Characters.{same_chars, no_char_at_quote, no_char_where_stopped}
 
 tail : {a b : ℕ} {s t : List ℕ} → a ∷ s ≡ b ∷ t → s ≡ t

@@ -1,5 +1,5 @@
 -- Words, numbers and strings at the front of a text.
-use Rattle.std.proofs.Common.{append_assoc, ◌≡◌, ◌≢◌, ℕ, ◌+◌, ◌-◌, ◌^◌, ◌<◌, ◌≤◌, min, Bool, true, false, cond, ◌&&◌, ◌||◌, List, [], ◌∷◌, ◌++◌, length, take, drop, get_or, refl, sym, ap, ap₂, subst, true≢false, ◌∙◌, arith, inl, inr, ◌⊎◌, take-append-drop, IsUtf8, one-add, nat_lt}
+use Rattle.std.proofs.Common.{append_assoc, ◌≡◌, ◌≢◌, ℕ, ◌+◌, ◌-◌, ◌^◌, ◌<◌, min, Bool, true, false, cond, List, [], ◌∷◌, ◌++◌, length, take, drop, get_or, refl, sym, ap, ap₂, subst, true≢false, ◌∙◌, arith, inl, inr, take-append-drop, IsUtf8, one-add, nat_lt}
 use Rattle.std.specs.Char.{is_ascii_lowercase, is_ascii_digit}
 use Rattle.std.specs.List.{list_all, prefix_len}
 use Rattle.std.specs.Str.{IsAscii}
@@ -36,9 +36,9 @@ all_word_bytes (b ∷ bs) h =
 
 all_ascii : (word : List ℕ) → list_all is_word_byte word ≡ true → IsAscii word
 all_ascii word h i = elim (cases_lt i (length word)) [
-    | inl within ↦ word_byte_is_ascii (get_or word i 0) (All-get_or (λ x. is_word_byte x ≡ true) word i 0 within (AllPass-from_list_all is_word_byte word h))
-    | inr beyond ↦ omega (arith, get_or_past word i 0 beyond)
-  ]
+  | inl within ↦ word_byte_is_ascii (get_or word i 0) (All-get_or (λ x. is_word_byte x ≡ true) word i 0 within (AllPass-from_list_all is_word_byte word h))
+  | inr beyond ↦ omega (arith, get_or_past word i 0 beyond)
+]
 
 -- a word is ASCII
 pub word_is_text : (word : List ℕ) → is_word word ≡ true → IsUtf8 word
@@ -63,7 +63,8 @@ word_begins kind b bs here word rest n e h f g r k =
       spelling = word;
       parts = sym (ap₂ (λ (x y : List ℕ). x ++ y) g r ∙ take-append-drop n here);
       spells = k;
-      longest = word_longest word rest (front_is_word b bs here word n e h f g) stops }
+      longest = word_longest word rest (front_is_word b bs here word n e h f g) stops;
+    }
 
 -- numbers
 
@@ -89,7 +90,8 @@ number_begins value b bs here digits rest n e h f g r k =
       spelling = digits;
       parts = sym (ap₂ (λ (x y : List ℕ). x ++ y) g r ∙ take-append-drop n here);
       spells = (number, k);
-      longest = number_longest digits rest number stops }
+      longest = number_longest digits rest number stops;
+    }
 
 -- strings
 
@@ -101,24 +103,27 @@ string_begins kind content behind here left rest e p q k =
       spelling = whole;
       parts = e ∙ ap (λ (x : List ℕ). 34 ∷ x) (p.parts ∙ ap (λ (x : List ℕ). p.inside ++ x) q ∙ sym (append_assoc p.inside (34 ∷ []) rest));
       spells = k whole string;
-      longest = string_longest content whole rest string }
+      longest = string_longest content whole rest string;
+    }
 
 pub string_ends : (n at : ℕ) (content behind here left : List ℕ) → here ≡ 34 ∷ behind → IsInside behind content left → left ≡ [] → at ≡ n → IsCut n here (record { at = at; why = why.Ended })
 string_ends n at content behind here left e p q f = record {
-    characters = p.characters;
-    inside = p.inside;
-    left = left;
-    spells = p.spells;
-    begins = e ∙ ap (λ (x : List ℕ). 34 ∷ x) p.parts;
-    place = omega (arith, ap (λ (x : List ℕ). length x) q);
-    stops = subst (λ (x : List ℕ). StopsString why.Ended x) (sym q) refl }
+  characters = p.characters;
+  inside = p.inside;
+  left = left;
+  spells = p.spells;
+  begins = e ∙ ap (λ (x : List ℕ). 34 ∷ x) p.parts;
+  place = omega (arith, ap (λ (x : List ℕ). length x) q);
+  stops = subst (λ (x : List ℕ). StopsString why.Ended x) (sym q) refl;
+}
 
 pub string_breaks : (n at b : ℕ) (content behind here left rest : List ℕ) → here ≡ 34 ∷ behind → IsInside behind content left → left ≡ b ∷ rest → b ≢ 34 → at + length left ≡ n → IsCut n here (record { at = at; why = why.Byte })
 string_breaks n at b content behind here left rest e p q h f = record {
-    characters = p.characters;
-    inside = p.inside;
-    left = left;
-    spells = p.spells;
-    begins = e ∙ ap (λ (x : List ℕ). 34 ∷ x) p.parts;
-    place = f;
-    stops = subst (λ (x : List ℕ). StopsString why.Byte x) (sym q) (refl, h, subst HasNoChar q p.longest) }
+  characters = p.characters;
+  inside = p.inside;
+  left = left;
+  spells = p.spells;
+  begins = e ∙ ap (λ (x : List ℕ). 34 ∷ x) p.parts;
+  place = f;
+  stops = subst (λ (x : List ℕ). StopsString why.Byte x) (sym q) (refl, h, subst HasNoChar q p.longest);
+}

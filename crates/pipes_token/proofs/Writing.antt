@@ -1,24 +1,22 @@
 -- What is written token by token has these tokens.
-use Rattle.std.proofs.Common.{◌≡◌, ◌≢◌, ℕ, ◌+◌, ◌-◌, ◌^◌, ◌<◌, ◌≤◌, min, Bool, true, false, ◌&&◌, ◌||◌, List, [], ◌∷◌, ◌++◌, map, length, refl, sym, ap, ap₂, subst, true≢false, ◌∙◌, arith, inl, inr, ◌⊎◌, append_assoc, append-nil, length-append, ◌==◌, nat_le}
+use Rattle.std.proofs.Common.{◌≡◌, ◌≢◌, ℕ, ◌-◌, ◌^◌, ◌<◌, ◌≤◌, min, true, false, ◌||◌, List, [], ◌∷◌, ◌++◌, length, refl, sym, ap₂, subst, ◌∙◌, arith, append_assoc, length-append, ◌==◌, nat_le}
 use Rattle.std.specs.Prelude.{codes}
 use Rattle.std.proofs.lemmas.Fmt.{decimal_is_IsNumeral}
 use Rattle.pipes_tuple.proofs.ReadBack.{is_numeral-IsNumeral}
 use Rattle.std.specs.Char.{is_ascii_lowercase, is_ascii_digit}
 use Rattle.std.specs.Fmt.{decimal}
 use Rattle.std.specs.List.{list_all}
-use Rattle.std.specs.Str.{encode_utf8_all}
 use Rattle.std.specs.Str.Parse.{digits_value}
-use Rattle.std.proofs.lemmas.Bool.{and_parts, and_from, or_parts, lt-ltb}
+use Rattle.std.proofs.lemmas.Bool.{and_parts, or_parts}
 use Rattle.std.proofs.lemmas.List.{map-append}
 use Rattle.std.proofs.lemmas.Bool.Decides.{nat_tests}
-use Rattle.pipes_tuple.specs.Reading.{is_numeral}
 use Rattle.pipes_token.specs.declared.keyword.Keyword.{Keyword as AKeyword}
 use Rattle.pipes_token.specs.declared.token.Sign.{Sign as ASign}
 use Rattle.pipes_token.specs.declared.token.Sign.TheVariants as sign
 use Rattle.pipes_token.specs.declared.token.TokenKind.{TokenKind}
-use Rattle.pipes_token.specs.declared.token.TokenKind.TheVariants.{Sign, Keyword, Name, Number, Text, Long, Cut, Byte, End}
+use Rattle.pipes_token.specs.declared.token.TokenKind.TheVariants.{Sign, Keyword, Name, Number, Text, Long}
 use Rattle.pipes_token.specs.declared.token.Token.{Token}
-use Rattle.pipes_token.specs.Gaps.{is_separator, BeginsNoGap, IsPastGap}
+use Rattle.pipes_token.specs.Gaps.{is_separator, BeginsNoGap}
 use Rattle.pipes_token.specs.Keywords.{keyword_text}
 use Rattle.pipes_token.specs.Strings.{IsString}
 use Rattle.pipes_token.specs.Spelling.{sign_text, is_word_byte, is_word, IsShortWord, IsKeyword, Spells, IsLongest}
@@ -91,28 +89,38 @@ apart_stops_digits [] h = tt
 apart_stops_digits (b ∷ bs) h = word_byte_parts b h
 
 pub write_keyword : (k : AKeyword) → Writes (Keyword k ∷ []) (keyword_text k)
-write_keyword k = record { begins = λ n more tokens fits apart t.
-    let word = and_parts (is_word (keyword_text k)) (nat_le (length (keyword_text k)) 64) (keyword_is_word k) in
-    write_one (Keyword k) (keyword_text k) more n tokens refl (λ e. absurd cc) (word_longest (keyword_text k) more word.0 (apart_stops more apart)) fits t }
+write_keyword k = record {
+  begins = λ n more tokens fits apart t.
+      let word = and_parts (is_word (keyword_text k)) (nat_le (length (keyword_text k)) 64) (keyword_is_word k) in
+      write_one (Keyword k) (keyword_text k) more n tokens refl (λ e. absurd cc) (word_longest (keyword_text k) more word.0 (apart_stops more apart)) fits t;
+}
 
 pub write_name : (w : List ℕ) → IsShortWord w → ¬ (IsKeyword w) → Writes (Name w ∷ []) w
-write_name w short free = record { begins = λ n more tokens fits apart t.
-    write_one (Name w) w more n tokens (refl, short, free) (λ e. absurd cc) (word_longest w more short.0 (apart_stops more apart)) fits t }
+write_name w short free = record {
+  begins = λ n more tokens fits apart t.
+      write_one (Name w) w more n tokens (refl, short, free) (λ e. absurd cc) (word_longest w more short.0 (apart_stops more apart)) fits t;
+}
 
 pub write_number : (i : ℕ) → i < 2 ^ 64 → Writes (Number i ∷ []) (decimal i)
-write_number i small = record { begins = λ n more tokens fits apart t.
-    let text = decimal_is_IsNumeral i small in
-    let numeral = is_numeral-IsNumeral (decimal i) text.0 in
-    let value : i ≡ min (digits_value 10 (decimal i)) (2 ^ 64 - 1) = omega (arith, text.1) in
-    write_one (Number i) (decimal i) more n tokens (numeral, value) (λ e. absurd cc) (number_longest (decimal i) more numeral (apart_stops_digits more apart)) fits t }
+write_number i small = record {
+  begins = λ n more tokens fits apart t.
+      let text = decimal_is_IsNumeral i small in
+      let numeral = is_numeral-IsNumeral (decimal i) text.0 in
+      let value : i ≡ min (digits_value 10 (decimal i)) (2 ^ 64 - 1) = omega (arith, text.1) in
+      write_one (Number i) (decimal i) more n tokens (numeral, value) (λ e. absurd cc) (number_longest (decimal i) more numeral (apart_stops_digits more apart)) fits t;
+}
 
 pub write_string : (content s : List ℕ) → IsString content s → length content ≤ 65535 → WritesFreely (Text content ∷ []) s
-write_string content s string short = record { begins = λ n more tokens fits _ t.
-    write_one (Text content) s more n tokens (string, short) (λ e. absurd cc) (string_longest content s more string) fits t }
+write_string content s string short = record {
+  begins = λ n more tokens fits _ t.
+      write_one (Text content) s more n tokens (string, short) (λ e. absurd cc) (string_longest content s more string) fits t;
+}
 
 one_byte : (s : ASign) (b : ℕ) → b ∷ [] ≡ sign_text s → b ≢ 60 → class_of b ≡ a_sign → WritesFreely (Sign s ∷ []) (sign_text s)
-one_byte s b e h c = record { begins = λ n more tokens fits _ t.
-    write_one (Sign s) (sign_text s) more n tokens refl (λ f. absurd cc) (subst (λ (x : List ℕ). IsLongest x more) e (sign_longest s b more e (λ left f g. h f) c)) fits t }
+one_byte s b e h c = record {
+  begins = λ n more tokens fits _ t.
+      write_one (Sign s) (sign_text s) more n tokens refl (λ f. absurd cc) (subst (λ (x : List ℕ). IsLongest x more) e (sign_longest s b more e (λ left f g. h f) c)) fits t;
+}
 
 -- every sign but `<`, behind which `=` would be a part of it
 pub write_open : WritesFreely (Sign sign.Open ∷ []) (codes "(")
@@ -149,8 +157,10 @@ pub write_star : WritesFreely (Sign sign.Star ∷ []) (codes "*")
 write_star = one_byte sign.Star 42 refl (λ e. omega arith) refl
 
 pub write_at_most : WritesFreely (Sign sign.AtMost ∷ []) (codes "<=")
-write_at_most = record { begins = λ n more tokens fits _ t.
-    write_one (Sign sign.AtMost) (codes "<=") more n tokens refl (λ f. absurd cc) (at_most_longest more) fits t }
+write_at_most = record {
+  begins = λ n more tokens fits _ t.
+      write_one (Sign sign.AtMost) (codes "<=") more n tokens refl (λ f. absurd cc) (at_most_longest more) fits t;
+}
 
 -- ---- spaces
 
@@ -163,20 +173,26 @@ space n bs _ (too_long _ here rest t p h long) = too_long (32 ∷ bs) here rest 
 space n bs _ (stopped _ here t p h) = stopped (32 ∷ bs) here t (behind_space n bs here t p) h
 
 pub write_space_before : (P : List ℕ → Type 0) (kinds : List TokenKind) (bytes : List ℕ) → WritesBefore P kinds bytes → WritesBefore P kinds (32 ∷ bytes)
-write_space_before P kinds bytes w = record { begins = λ n more tokens fits h t.
-    let made = w.begins n more tokens (omega arith) h t in
-    record { front = made.front; are = made.are; whole = space n (bytes ++ more) (made.front ++ tokens) made.whole } }
+write_space_before P kinds bytes w = record {
+  begins = λ n more tokens fits h t.
+      let made = w.begins n more tokens (omega arith) h t in
+      record { front = made.front; are = made.are; whole = space n (bytes ++ more) (made.front ++ tokens) made.whole };
+}
 
 pub write_space_behind : (kinds : List TokenKind) (bytes : List ℕ) → Writes kinds bytes → WritesFreely kinds (bytes ++ (32 ∷ []))
-write_space_behind kinds bytes w = record { begins = λ n more tokens fits _ t.
-    let parts : (bytes ++ (32 ∷ [])) ++ more ≡ bytes ++ (32 ∷ more) = append_assoc bytes (32 ∷ []) more in
-    let short : length (bytes ++ (32 ∷ more)) ≤ n = subst (λ (x : List ℕ). length x ≤ n) parts fits in
-    subst (λ (x : List ℕ). BeginsWith n kinds x tokens) (sym parts) (w.begins n (32 ∷ more) tokens short refl (space n more tokens t)) }
+write_space_behind kinds bytes w = record {
+  begins = λ n more tokens fits _ t.
+      let parts : (bytes ++ (32 ∷ [])) ++ more ≡ bytes ++ (32 ∷ more) = append_assoc bytes (32 ∷ []) more in
+      let short : length (bytes ++ (32 ∷ more)) ≤ n = subst (λ (x : List ℕ). length x ≤ n) parts fits in
+      subst (λ (x : List ℕ). BeginsWith n kinds x tokens) (sym parts) (w.begins n (32 ∷ more) tokens short refl (space n more tokens t));
+}
 
 -- `<` and a space
 pub write_less : WritesFreely (Sign sign.Less ∷ []) (codes "< ")
-write_less = record { begins = λ n more tokens fits _ t.
-    write_one (Sign sign.Less) (codes "<") (32 ∷ more) n tokens refl (λ f. absurd cc) (sign_longest sign.Less 60 (32 ∷ more) refl (λ left f g. absurd cc) refl) fits (space n more tokens t) }
+write_less = record {
+  begins = λ n more tokens fits _ t.
+      write_one (Sign sign.Less) (codes "<") (32 ∷ more) n tokens refl (λ f. absurd cc) (sign_longest sign.Less 60 (32 ∷ more) refl (λ left f g. absurd cc) refl) fits (space n more tokens t);
+}
 
 -- ---- one after the other
 
@@ -189,14 +205,17 @@ both n kinds others a b more tokens second first =
     record {
       front = one.front ++ second.front;
       are = map-append (λ (t : Token). t.kind) one.front second.front ∙ ap₂ (λ (x y : List TokenKind). x ++ y) one.are second.are;
-      whole = subst (λ (x : List ℕ). Tokens n x ((one.front ++ second.front) ++ tokens)) (sym (append_assoc a b more)) (subst (λ (ts : List Token). Tokens n (a ++ (b ++ more)) ts) (sym (append_assoc one.front second.front tokens)) one.whole) }
+      whole = subst (λ (x : List ℕ). Tokens n x ((one.front ++ second.front) ++ tokens)) (sym (append_assoc a b more)) (subst (λ (ts : List Token). Tokens n (a ++ (b ++ more)) ts) (sym (append_assoc one.front second.front tokens)) one.whole);
+    }
 
 -- what stands first may stand before the second, whatever follows that
 pub write_both : (P Q : List ℕ → Type 0) (kinds others : List TokenKind) (a b : List ℕ) → ((more : List ℕ) → Q more → P (b ++ more)) → WritesBefore P kinds a → WritesBefore Q others b → WritesBefore Q (kinds ++ others) (a ++ b)
-write_both P Q kinds others a b before v w = record { begins = λ n more tokens fits h t.
-    let whole : length (a ++ (b ++ more)) ≤ n = subst (λ (x : List ℕ). length x ≤ n) (append_assoc a b more) fits in
-    let part : length (b ++ more) ≤ n = omega (arith, length-append a (b ++ more)) in
-    both n kinds others a b more tokens (w.begins n more tokens part h t) (λ ts k. v.begins n (b ++ more) ts whole (before more h) k) }
+write_both P Q kinds others a b before v w = record {
+  begins = λ n more tokens fits h t.
+      let whole : length (a ++ (b ++ more)) ≤ n = subst (λ (x : List ℕ). length x ≤ n) (append_assoc a b more) fits in
+      let part : length (b ++ more) ≤ n = omega (arith, length-append a (b ++ more)) in
+      both n kinds others a b more tokens (w.begins n more tokens part h t) (λ ts k. v.begins n (b ++ more) ts whole (before more h) k);
+}
 
 -- behind what may stand before anything
 pub write_then : (Q : List ℕ → Type 0) (kinds others : List TokenKind) (a b : List ℕ) → WritesFreely kinds a → WritesBefore Q others b → WritesBefore Q (kinds ++ others) (a ++ b)

@@ -19,11 +19,7 @@ use std::alloc::Global;
 use std::str;
 
 // What stands here in a text of `total` bytes, and what is left behind it.
-pub(crate) fn read(
-    alloc: Global,
-    total: usize,
-    here: &[u8],
-) -> Result<(TokenKind, &[u8]), Memory>
+pub(crate) fn read(alloc: Global, total: usize, here: &[u8]) -> Result<(TokenKind, &[u8]), Memory>
     requires { length here.now ≤ total }
     ensures { IfOk result (λ x. Reads total here.now x.0 x.1.now) }
 {
@@ -62,10 +58,7 @@ fn word_len(bytes: &[u8]) -> usize
     ensures value { result ≡ prefix_len is_word_byte bytes.now }
     ensures bound { result ≤ length bytes.now }
 {
-    bytes
-        .iter()
-        .take_while(|byte| is_in_words(**byte))
-        .count()
+    bytes.iter().take_while(|byte| is_in_words(**byte)).count()
 }
 
 // Whether the byte may stand in a word.

@@ -66,7 +66,10 @@ fn gaps_words_and_signs(rt: HostRuntime) -> Result<(), Fail> {
         ("(!x", 2, 1, 1, Want::Byte),
     ];
     for (text, count, index, at, want) in rows {
-        assert!(rt; has(&rt, text.as_bytes(), count, index, at, want)?, "{text}");
+        assert!(rt;
+            has(&rt, text.as_bytes(), count, index, at, want)?,
+            "{text}"
+        );
     }
     Ok(())
 }
@@ -99,13 +102,7 @@ fn numbers_and_strings(rt: HostRuntime) -> Result<(), Fail> {
 }
 
 // A text of so many bytes, all of them the same but for a first and a last one.
-fn text_of(
-    rt: &HostRuntime,
-    first: u8,
-    byte: u8,
-    last: u8,
-    count: usize,
-) -> Result<Vec<u8>, Fail> {
+fn text_of(rt: &HostRuntime, first: u8, byte: u8, last: u8, count: usize) -> Result<Vec<u8>, Fail> {
     let mut text = Vec::new(rt.alloc());
     text.push(first)?;
     for _ in 0..count {
@@ -124,12 +121,22 @@ fn limits_of_length(rt: HostRuntime) -> Result<(), Fail> {
         (b'a', b'b', b'c', 63, 1, Want::Long),
         (b'"', b'b', b'"', 65_535, 2, Want::End),
         (b'"', b'b', b'"', 65_536, 1, Want::Long),
-        (b'"', b'b', b'\n', 65_536, 1, Want::Cut(65_537, TextWhy::Byte)),
+        (
+            b'"',
+            b'b',
+            b'\n',
+            65_536,
+            1,
+            Want::Cut(65_537, TextWhy::Byte),
+        ),
     ];
     for (first, byte, last, length, count, want) in rows {
         let text = text_of(&rt, first, byte, last, length)?;
         let at = if count == 2 { length + 2 } else { 0 };
-        assert!(rt; has(&rt, text.as_slice(), count, count - 1, at, want)?, "{want:?}");
+        assert!(rt;
+            has(&rt, text.as_slice(), count, count - 1, at, want)?,
+            "{want:?}"
+        );
     }
     Ok(())
 }
@@ -157,7 +164,14 @@ fn hostile_texts_end_soon(rt: HostRuntime) -> Result<(), Fail> {
 #[test]
 fn places(rt: HostRuntime) {
     let text = b"ab\n\nc\xC3\xA9d";
-    let rows = [(0, 1, 1), (2, 1, 3), (3, 2, 1), (4, 3, 1), (7, 3, 4), (8, 3, 5)];
+    let rows = [
+        (0, 1, 1),
+        (2, 1, 3),
+        (3, 2, 1),
+        (4, 3, 1),
+        (7, 3, 4),
+        (8, 3, 5),
+    ];
     for (at, line, column) in rows {
         let why = TextWhy::Token;
         let told = tell(text, Refusal { at, why });
@@ -167,7 +181,8 @@ fn places(rt: HostRuntime) {
 
 #[test]
 fn keywords_give_their_spelling_back(rt: HostRuntime) -> Result<(), Fail> {
-    let text = "source from window time count int text flag plan filter map union join distinct group \
+    let text =
+        "source from window time count int text flag plan filter map union join distinct group \
         minus sum min max avg true false and or not step back at top with feed rest await migrate drain";
     let made = tokens(rt.alloc(), text.as_bytes())?;
     assert_eq!(rt; made.len(), 36);

@@ -1,5 +1,4 @@
-use Rattle.std.proofs.Common.{◌≡◌, ℕ, ◌≤◌, List, length, arith, rules}
-use Rattle.pipes_token.specs.Gaps.{IsPastGap}
+use Rattle.std.proofs.Common.{arith, rules}
 use Rattle.pipes_token.proofs.Gaps.{more_separator, more_comment, past_token, past_all}
 use Rattle.pipes_token.proofs.gap.past_gap.Goals as goal
 

@@ -1,4 +1,4 @@
-use Rattle.std.proofs.Common.{◌≡◌, ◌≤◌, sym, ◌∙◌, length, arith}
+use Rattle.std.proofs.Common.{sym, ◌∙◌, length, arith}
 use Rattle.pipes_token.proofs.Following.{follows_shorter, whole_more, whole_last}
 use Rattle.pipes_token.proofs.OnlyTokens.{same_tokens}
 use Rattle.pipes_token.proofs.lex.tokens.Goals as goal
@@ -18,4 +18,5 @@ tokens-preserved c =
     let less = follows_shorter (length c.args.bytes.now) c.tokens.rest.now c.in-Ok.behind.now c.in-Ok.token c.in-Ok.ensures goes_on in
     record {
       whole = whole_more (length c.args.bytes.now) c.args.bytes.now c.tokens.rest.now c.in-Ok.behind.now c.tokens.made.items c.push.new.self.items c.in-Ok.token c.in_ok-push-in-Ok.ensures.items c.in-Ok.ensures goes_on c.tokens.invariant.whole;
-      bound = omega (arith, less) }
+      bound = omega (arith, less);
+    }

@@ -1,4 +1,4 @@
-use Rattle.std.proofs.Common.{◌≡◌, ℕ, ◌∷◌, [], List, ap, sym, ◌∙◌, arith, refl, subst}
+use Rattle.std.proofs.Common.{ℕ, sym, subst}
 use Rattle.pipes_token.specs.Strings.{BeginsChar}
 use Rattle.pipes_token.proofs.Characters.{no_char_in_none, no_char_at_byte, ascii_begins}
 use Rattle.pipes_token.proofs.quoted.character.Goals as goal

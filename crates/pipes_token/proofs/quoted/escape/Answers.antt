@@ -1,4 +1,4 @@
-use Rattle.std.proofs.Common.{◌≡◌, ℕ, ◌∷◌, [], List, ap, sym, ◌∙◌}
+use Rattle.std.proofs.Common.{ℕ, ◌∷◌, List, ap, sym, ◌∙◌}
 use Rattle.pipes_token.proofs.Characters.{no_char_at_slash, no_char_at_escape, escape_begins}
 use Rattle.pipes_token.proofs.quoted.escape.Goals as goal
 

@@ -1,4 +1,4 @@
-use Rattle.std.proofs.Common.{◌≡◌, ℕ, ◌<◌, ◌≤◌, length, take, arith, List, ap, length-take-le}
+use Rattle.std.proofs.Common.{ℕ, length, arith, List, ap, length-take-le}
 use Rattle.pipes_token.proofs.quoted.valid_front.Goals as goal
 
 pub returns-in-Err-clause-longest : goal.returns-in-Err-clause-longest

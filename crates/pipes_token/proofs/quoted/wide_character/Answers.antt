@@ -1,4 +1,4 @@
-use Rattle.std.proofs.Common.{◌≡◌, ℕ, ◌<◌, ◌≤◌, min, ◌∷◌, [], List, ap, sym, ◌∙◌, arith, length, refl, rules, subst, take}
+use Rattle.std.proofs.Common.{◌≡◌, ℕ, List, sym, ◌∙◌, arith, length, rules, subst}
 use Rattle.pipes_token.proofs.Characters.{wide_begins, wide_none}
 use Rattle.pipes_token.proofs.quoted.wide_character.Goals as goal
 

@@ -1,8 +1,8 @@
-use Rattle.std.proofs.Common.{◌≡◌, ℕ, ◌∷◌, List, ap, sym, subst, ◌∙◌, inl, inr, arith, string_bytes, length}
+use Rattle.std.proofs.Common.{ℕ, ◌∷◌, List, ap, sym, subst, ◌∙◌, inl, inr, arith, string_bytes, length}
 use Rattle.pipes_token.specs.Strings.{IsInside}
 use Rattle.pipes_token.specs.Tokens.{Stops}
 use Rattle.pipes_token.specs.declared.token.TokenKind.{TokenKind}
-use Rattle.pipes_token.proofs.Words.{string_begins, string_breaks, string_ends}
+use Rattle.pipes_token.proofs.Words.{string_begins, string_breaks}
 use Rattle.pipes_token.proofs.read.string.Goals as goal
 
 pub returns-then-byte-eq34 : goal.returns-then-byte-eq34

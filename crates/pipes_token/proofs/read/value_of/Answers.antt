@@ -1,4 +1,4 @@
-use Rattle.std.proofs.Common.{◌≡◌, ◌-◌, ◌^◌, min, take, arith, get_or, take_all, refl, sym, ap, ◌∙◌, ℕ, List}
+use Rattle.std.proofs.Common.{◌-◌, ◌^◌, min, arith, take_all, ap, ◌∙◌, ℕ, List}
 use Rattle.std.specs.Str.Parse.{digits_value}
 use Rattle.pipes_token.proofs.Digits.{more_digits}
 use Rattle.pipes_token.proofs.read.value_of.Goals as goal

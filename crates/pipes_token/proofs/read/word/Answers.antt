@@ -1,4 +1,3 @@
-use Rattle.std.proofs.Common.{sym, ◌∙◌, subst}
 use Rattle.pipes_token.proofs.Words.{front_is_word, word_begins}
 use Rattle.pipes_token.proofs.read.word.Goals as goal
 

@@ -1,5 +1,5 @@
-use Rattle.std.proofs.Common.{sym, ◌∙◌}
-use Rattle.pipes_token.proofs.ByFirst.{keyword_of, keyword_found, missing_keyword}
+use Rattle.std.proofs.Common.{sym}
+use Rattle.pipes_token.proofs.ByFirst.{keyword_of, keyword_found}
 use Rattle.pipes_token.proofs.read.word_kind.Goals as goal
 
 pub returns-in-Some : goal.returns-in-Some
