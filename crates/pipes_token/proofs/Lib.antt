@@ -1,0 +1,11 @@
+pub mod Runs
+pub mod Characters
+pub mod Gaps
+pub mod Strings
+pub mod Fronts
+pub mod ByFirst
+pub mod OnlyTokens
+pub mod Longest
+pub mod Digits
+pub mod Words
+pub mod Following
