@@ -64,9 +64,10 @@ module _ (A : Type 0) (Is : A → List TokenKind → Type 0) (text : A → List 
 
   pub list_print : ((x : A) (ks : List TokenKind) → Is x ks → AreSpelled ks → PrintsAs Is text x) → (xs : List A) (ks : List TokenKind) → IsList Is xs ks → AreSpelled ks → PrintsAs (IsList Is) (list_text text) xs
   list_print each _ _ empty s = record {
-      kinds = Sign OpenList ∷ Sign CloseList ∷ [];
-      is = empty;
-      writes = write_then IsApart (Sign OpenList ∷ []) (Sign CloseList ∷ []) (codes "[") (codes "]") write_open_list (write_apart (Sign CloseList ∷ []) (codes "]") write_close_list) }
+    kinds = Sign OpenList ∷ Sign CloseList ∷ [];
+    is = empty;
+    writes = write_then IsApart (Sign OpenList ∷ []) (Sign CloseList ∷ []) (codes "[") (codes "]") write_open_list (write_apart (Sign CloseList ∷ []) (codes "]") write_close_list);
+  }
   list_print each _ _ (filled xs ks h) s =
       let p = filled_print each xs ks h s in
       record { kinds = p.kinds; is = filled xs p.kinds p.is; writes = p.writes }
@@ -78,9 +79,10 @@ column_prints _ _ (g.column i h) s = record { kinds = Number i ∷ []; is = g.Is
 
 pub pair_prints : (pair : Pair) (ks : List TokenKind) → IsPair pair ks → AreSpelled ks → PrintsAs IsPair pair_text pair
 pair_prints _ _ (g.IsPair.pair i j h k) s = record {
-    kinds = Number i ∷ Sign Equal ∷ Number j ∷ [];
-    is = g.IsPair.pair i j h k;
-    writes = write_apart_then IsApart (Number i ∷ []) (Sign Equal ∷ Number j ∷ []) (decimal i) (codes "=" ++ decimal j) (λ more. refl) (write_number i (omega arith)) (write_then IsApart (Sign Equal ∷ []) (Number j ∷ []) (codes "=") (decimal j) write_equal (write_number j (omega arith))) }
+  kinds = Number i ∷ Sign Equal ∷ Number j ∷ [];
+  is = g.IsPair.pair i j h k;
+  writes = write_apart_then IsApart (Number i ∷ []) (Sign Equal ∷ Number j ∷ []) (decimal i) (codes "=" ++ decimal j) (λ more. refl) (write_number i (omega arith)) (write_then IsApart (Sign Equal ∷ []) (Number j ∷ []) (codes "=") (decimal j) write_equal (write_number j (omega arith)));
+}
 
 word_and : (k : AKeyword) (i : ℕ) → i < 32 → Writes (Keyword k ∷ Number i ∷ []) ((keyword_text k ++ (32 ∷ [])) ++ decimal i)
 word_and k i h = write_then IsApart (Keyword k ∷ []) (Number i ∷ []) (keyword_text k ++ (32 ∷ [])) (decimal i) (write_space_behind (Keyword k ∷ []) (keyword_text k) (write_keyword k)) (write_number i (omega arith))
