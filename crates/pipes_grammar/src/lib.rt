@@ -9,6 +9,8 @@ mod node;
 mod op;
 mod plan;
 mod start;
+#[cfg(test)]
+mod tests;
 mod tokens;
 
 pub use expr::read_expr;

@@ -1,3 +1,4 @@
+pub mod Ranking
 pub mod Changing
 pub mod Those
 pub mod Longest

@@ -5,6 +5,8 @@ mod expr;
 mod list;
 mod piece;
 mod plan;
+#[cfg(test)]
+mod tests;
 
 pub use expr::{print_expr, print_exprs};
 pub use plan::print_plan;

@@ -7,6 +7,8 @@ mod query;
 mod read;
 mod source;
 mod take;
+#[cfg(test)]
+mod tests;
 mod text;
 
 pub use pipes_token::{ReadFault, TextRefusal, TextWhy};

@@ -1,10 +1,4 @@
-pub mod Query
-pub mod Entry
-pub mod Right
-pub mod Form
-pub mod Names
+pub mod Asked
 pub mod Outcome
-pub mod Pieces
 pub mod Seen
-pub mod Written
-pub mod Steps
+pub mod Running

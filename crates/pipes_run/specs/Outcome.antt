@@ -1,200 +1,179 @@
 -- What a call does: the fault that it ends with, what it writes, and what it says of the fault.
-use Rattle.std.specs.Prelude.{◌≡◌, ◌⊎◌, ◌↔◌, ℕ, ◌<◌, List, [], ◌∷◌, ◌++◌, length, take, Bool, false, not, ◌==◌, ◌&&◌, nat_lt, if◌then◌else◌, Option, Some, None, Result, Ok, Err, ⊤, codes}
-use Rattle.std.specs.Option.{ok_or, option_map}
-use Rattle.std.specs.Char.{is_ascii_digit}
-use Rattle.std.specs.List.{list_all}
+use Rattle.std.specs.Prelude.{◌≡◌, ◌⊎◌, ◌↔◌, ℕ, List, [], ◌∷◌, ◌++◌, take, map, flat_map, Option, Some, None, Result, Ok, Err, ⊤, codes}
+use Rattle.std.specs.List.{All}
 use Rattle.std.specs.List.Sorted.{IsSorted}
-use Rattle.std.specs.Str.Parse.{digits_value}
-use Rattle.std.specs.Str.{bytes_eq}
 use Rattle.std.specs.Io.KnownBytes.{Appends}
-use Rattle.pipes_time.specs.Interval.{horizon}
+use Rattle.pipes_edge.specs.Causes.{Rose}
+use Rattle.pipes_edge.specs.Outside.{Names}
+use Rattle.pipes_tuple.specs.declared.value.Kind.{Kind}
 use Rattle.pipes_tuple.specs.declared.value.Value.{Value}
 use Rattle.pipes_tuple.specs.Bag.{SameBag}
 use Rattle.pipes_tuple.specs.Order.{tuple_cmp}
-use Rattle.pipes_tuple.specs.Texts.{quoted}
-use Rattle.pipes_edge.specs.Causes.{Rose}
-use Rattle.pipes_edge.specs.Outside.{Names}
-use Rattle.pipes_run.specs.Query.{Query, SourceDecl, Row, answer}
-use Rattle.pipes_run.specs.Entry.{Entry, line, lines, tuple_lines, EndsWithEnd}
-use Rattle.pipes_run.specs.Right.{Right, Final}
-use Rattle.pipes_run.specs.Form.{query_of, script_of, rows_of}
+use Rattle.pipes_window.specs.declared.item.Item.{Item}
+use Rattle.pipes_output.specs.declared.entry.Entry.TheVariants.{Ended, Stopped}
+use Rattle.pipes_words.specs.Command.{Command, Run, command_of}
+use Rattle.pipes_feed.specs.declared.reason.Reason.{Reason}
+use Rattle.pipes_feed.specs.declared.reason.Reason.TheVariants as reason
+use Rattle.pipes_feed.specs.Items.{Items}
+use Rattle.pipes_query.specs.declared.query.Query.{Query}
+use Rattle.pipes_query.specs.declared.query.SourceDecl.{SourceDecl}
+use Rattle.pipes_query.specs.Printing.{query_text, kind_text}
+use Rattle.pipes_meaning.specs.Answer.{answer, schema_of}
+use Rattle.pipes_meaning.specs.Run.{WritesRun, WritesRunFront}
+use Rattle.pipes_at.specs.Lines.{tuple_lines}
+use Rattle.pipes_fault.specs.Fault.{Fault, Words, QueryText, QueryType, Unbuilt, Missing, ReadFile, ReadSource, Row, Limit, Write, Memory, status_of, fault_line, Given, Says}
+use Rattle.pipes_run.specs.Asked.{Job, RunOver, AnswerAt, PrintOf, job_of, AsksWords, Asks}
 
--- why a call ends with another status than 0
-pub data Fault : Type 0 where
-  Words : Fault
-  Unbuilt : Fault
-  Missing : List ℕ → Fault
-  Read : List ℕ → Fault
-  Write : Fault
-  Memory : Fault
+abbrev pub kind_part : Kind → List ℕ
+kind_part kind = codes " " ++ kind_text kind
 
-abbrev pub status_of : Option Fault → ℕ
-status_of None = 0
-status_of (Some Words) = 1
-status_of (Some (Missing name)) = 4
-status_of (Some (Read name)) = 4
-status_of (Some Write) = 5
-status_of (Some Memory) = 6
-status_of (Some Unbuilt) = 9
+-- the kinds of a query's result, each after one space
+abbrev pub kinds_line : List Kind → List ℕ
+kinds_line kinds = codes "kinds" ++ flat_map kind_part kinds ++ codes "\n"
 
--- the line that tells of a fault
-abbrev pub fault_line : Option Fault → List ℕ
-fault_line None = []
-fault_line (Some Words) = codes "pipes: words\n"
-fault_line (Some Unbuilt) = codes "pipes: unbuilt\n"
-fault_line (Some (Missing name)) = codes "pipes: missing " ++ quoted name ++ codes "\n"
-fault_line (Some (Read name)) = codes "pipes: read " ++ quoted name ++ codes "\n"
-fault_line (Some Write) = codes "pipes: write\n"
-fault_line (Some Memory) = codes "pipes: memory\n"
+-- what `check` writes
+abbrev pub checked_text : Query → List ℕ
+checked_text query = query_text query ++ kinds_line (schema_of query)
 
--- what the words command: a run, with the names of its query and its script, or an answer, with the name of its query and its instant
-pub data Command : Type 0 where
-  Run : List ℕ → List ℕ → Command
-  At : List ℕ → ℕ → Command
+-- the items of each source
+abbrev pub lists_of : List Items → List (List Item)
+lists_of items = map (λ i. i.list) items
 
--- a positional word is not empty and begins with no dash
-abbrev pub is_positional : List ℕ → Bool
-is_positional [] = false
-is_positional (b ∷ bs) = not (b == 45)
+-- each source was read to its end
+abbrev pub AllEnd : List Items → Type 0
+AllEnd items = All (λ i. i.end ≡ reason.AtEnd) items
 
--- the instant that digits write
-abbrev pub instant_of : List ℕ → Option ℕ
-instant_of word = if nat_lt 0 (length word) && list_all is_ascii_digit word && nat_lt (digits_value 10 word) horizon then Some (digits_value 10 word) else None
+-- of each source a front of its items was taken
+abbrev pub AreFronts : List Items → List (List Item) → Type 0
+AreFronts [] [] = ⊤
+AreFronts (i ∷ is) (t ∷ ts) = ((n : ℕ) × (t ≡ take n i.list)) × AreFronts is ts
+AreFronts _ _ = ⊥
 
-abbrev pub run_of : List ℕ → List ℕ → Option Command
-run_of query script = if is_positional query && is_positional script then Some (Run query script) else None
+-- the items of the source with this name end so, and all of them were taken
+abbrev pub StoppedAt : List SourceDecl → List Items → List (List Item) → List ℕ → Reason → Type 0
+StoppedAt (s ∷ ss) (i ∷ is) (t ∷ ts) name why = ((s.name ≡ name) × (i.end ≡ why) × (t ≡ i.list)) ⊎ StoppedAt ss is ts name why
+StoppedAt _ _ _ name why = ⊥
 
-abbrev pub at_of : List ℕ → List ℕ → Option Command
-at_of query time = if is_positional query then option_map (At query) (instant_of time) else None
+-- one of the sources has its rows in this file
+abbrev pub IsFileOf : List SourceDecl → List ℕ → Type 0
+IsFileOf [] file = ⊥
+IsFileOf (s ∷ ss) file = (s.file ≡ file) ⊎ IsFileOf ss file
 
-abbrev pub command_named : List ℕ → List ℕ → List ℕ → Option Command
-command_named name query other = if bytes_eq name (codes "run") then run_of query other else if bytes_eq name (codes "at") then at_of query other else None
+-- what an answer at an instant writes
+abbrev pub WritesAnswer : Query → List (List Item) → ℕ → List ℕ → Type 0
+WritesAnswer query items t bytes = (rows : List (List Value)) × (bytes ≡ tuple_lines rows) × IsSorted tuple_cmp rows × SameBag rows (answer query items t)
 
--- `run QUERY SCRIPT` or `at QUERY TIME`
-abbrev pub command_of : List (List ℕ) → Option Command
-command_of (name ∷ query ∷ other ∷ []) = command_named name query other
-command_of words = None
+-- a job that was done, or stopped by a fault, and what it has written then
+abbrev pub Does : Job → Option Fault → List ℕ → Type 0
+Does (RunOver form query items) None bytes = AllEnd items × WritesRun form query (lists_of items) Ended bytes
+Does (RunOver form query items) (Some (Row source line why)) bytes =
+    (taken : List (List Item)) × AreFronts items taken × StoppedAt query.sources items taken source (reason.Row line why) × WritesRun form query taken Stopped bytes
+Does (RunOver form query items) (Some (Limit source line)) bytes =
+    (taken : List (List Item)) × AreFronts items taken × StoppedAt query.sources items taken source (reason.Limit line) × WritesRun form query taken Stopped bytes
+Does (RunOver form query items) (Some (ReadSource file)) bytes = (taken : List (List Item)) × AreFronts items taken × IsFileOf query.sources file × WritesRun form query taken Stopped bytes
+Does (RunOver form query items) (Some Write) bytes = (taken : List (List Item)) × AreFronts items taken × WritesRunFront form query taken bytes
+Does (RunOver form query items) (Some Memory) bytes = (taken : List (List Item)) × AreFronts items taken × WritesRunFront form query taken bytes
+Does (AnswerAt query items t) None bytes = WritesAnswer query items t bytes
+Does (AnswerAt query items t) (Some Write) bytes = (whole : List ℕ) × (n : ℕ) × WritesAnswer query items t whole × (bytes ≡ take n whole)
+Does (AnswerAt query items t) (Some Memory) bytes = (bytes ≡ []) ⊎ ((whole : List ℕ) × (n : ℕ) × WritesAnswer query items t whole × (bytes ≡ take n whole))
+Does (PrintOf query) None bytes = bytes ≡ checked_text query
+Does (PrintOf query) (Some Write) bytes = (n : ℕ) × (bytes ≡ take n (checked_text query))
+Does (PrintOf query) (Some Memory) bytes = (n : ℕ) × (bytes ≡ take n (checked_text query))
+Does job (Some (ReadFile name)) bytes = bytes ≡ []
+Does job fault bytes = ⊥
 
--- what a command has to do, once its files are read: a run of a query over its sources' rows, or its answer at an instant
-pub data Job : Type 0 where
-  RunOver : Query → List (List Row) → Job
-  AnswerAt : Query → List (List Row) → ℕ → Job
+-- What was asked for was done; or what the words and the files refuse was refused, but for a failed read and want of memory on the way there.
+abbrev pub DoesAsked : Result Job Fault → Option Fault → List ℕ → Type 0
+DoesAsked (Ok job) fault bytes = Does job fault bytes
+DoesAsked (Err refused) None bytes = ⊥
+DoesAsked (Err refused) (Some Write) bytes = ⊥
+DoesAsked (Err refused) (Some (ReadSource file)) bytes = ⊥
+DoesAsked (Err refused) (Some (ReadFile name)) bytes = bytes ≡ []
+DoesAsked (Err refused) (Some Memory) bytes = bytes ≡ []
+DoesAsked (Err refused) (Some fault) bytes = (refused ≡ fault) × (bytes ≡ [])
 
-infixl 10 ◌>>=◌
-abbrev pub ◌>>=◌ : {A B : Type 0} → Result A Fault → (A → Result B Fault) → Result B Fault
-(Ok x) >>= f = f x
-(Err e) >>= f = Err e
+-- a failed read, or want of memory, before anything was written
+abbrev pub StopsFirst : Option Fault → List ℕ → Type 0
+StopsFirst (Some (ReadFile name)) bytes = bytes ≡ []
+StopsFirst (Some Memory) bytes = bytes ≡ []
+StopsFirst fault bytes = ⊥
 
--- what the form makes of the file with the name: missing without the file, unbuilt where the form doesn't have it
-abbrev pub formed : {A : Type 0} → (List ℕ → Option A) → Names → List ℕ → Result A Fault
-formed form files name = ok_or (files name) (Missing name) >>= λ bytes. ok_or (form bytes) Unbuilt
+-- what fails before a run: the query's file, the script's, or the search for a source's
+abbrev pub IsEarly : Option Command → List ℕ → ℕ → ℕ → Type 0
+IsEarly (Some (Run query script form)) name before now = (name ≡ query) ⊎ (name ≡ script) ⊎ Rose before now
+IsEarly _ name before now = ⊤
 
--- the rows of each source, in order
-abbrev pub rows_of_sources : Names → List SourceDecl → Result (List (List Row)) Fault
-rows_of_sources files [] = Ok []
-rows_of_sources files (s ∷ ss) = do
-  rows ← formed rows_of files s.file
-  others ← rows_of_sources files ss
-  Ok (rows ∷ others)
+-- the counts of faults of files by their names, of failed searches, and of the output
+pub record Counts : Type 0 where
+  pub files : List ℕ → ℕ
+  pub searches : ℕ
+  pub out : ℕ
 
-abbrev pub job_of_command : Command → Names → Result Job Fault
-job_of_command (Run query script) files = do
-  asked ← formed query_of files query
-  nothing ← formed script_of files script
-  rows ← rows_of_sources files asked.sources
-  Ok (RunOver asked rows)
-job_of_command (At query time) files = do
-  asked ← formed query_of files query
-  rows ← rows_of_sources files asked.sources
-  Ok (AnswerAt asked rows time)
-
--- what the words and the files ask for, or the first fault that they decide
-unfoldable pub job_of : List (List ℕ) → Names → Result Job Fault
-job_of words files = ok_or (command_of words) Words >>= λ command. job_of_command command files
-
--- the whole of what a job writes
-abbrev pub Writes : Job → List ℕ → Type 0
-Writes (RunOver query items) bytes = (entries : List Entry) × (bytes ≡ lines entries) × EndsWithEnd entries × Right query items entries × Final query items entries
-Writes (AnswerAt query items t) bytes = (rows : List (List Value)) × (bytes ≡ tuple_lines rows) × IsSorted tuple_cmp rows × SameBag rows (answer query items t)
-
--- what a job has written where a fault stops it: of a run lines of entries, and a front of one entry's line; of an answer nothing, or a front of its lines
-abbrev pub WritesFront : Job → List ℕ → Type 0
-WritesFront (RunOver query items) bytes = (entries : List Entry) × (last : Entry) × (n : ℕ) × (bytes ≡ lines entries ++ take n (line last)) × Final query items entries
-WritesFront (AnswerAt query items t) bytes = (bytes ≡ []) ⊎ ((whole : List ℕ) × (n : ℕ) × Writes (AnswerAt query items t) whole × (bytes ≡ take n whole))
-
--- What was asked for is what was done, but for the three faults that nobody knows before.
-abbrev pub Does : Result Job Fault → Option Fault → List ℕ → Type 0
-Does (Ok job) None bytes = Writes job bytes
-Does (Ok job) (Some Memory) bytes = WritesFront job bytes
-Does (Ok job) (Some Write) bytes = WritesFront job bytes
-Does (Ok job) (Some (Read name)) bytes = bytes ≡ []
-Does (Ok job) (Some Words) bytes = ⊥
-Does (Ok job) (Some Unbuilt) bytes = ⊥
-Does (Ok job) (Some (Missing name)) bytes = ⊥
-Does (Err fault) None bytes = ⊥
-Does (Err fault) (Some Memory) bytes = bytes ≡ []
-Does (Err fault) (Some Write) bytes = ⊥
-Does (Err fault) (Some (Read name)) bytes = bytes ≡ []
-Does (Err fault) (Some Words) bytes = (fault ≡ Words) × (bytes ≡ [])
-Does (Err fault) (Some Unbuilt) bytes = (fault ≡ Unbuilt) × (bytes ≡ [])
-Does (Err fault) (Some (Missing name)) bytes = (fault ≡ Missing name) × (bytes ≡ [])
-
--- a read fails only where the count of its file's name rose, and a write where the count of the output did
-abbrev pub HasCauseIn : (List ℕ → ℕ) → (List ℕ → ℕ) → ℕ → ℕ → Option Fault → Type 0
-HasCauseIn before now out_before out_now (Some (Read name)) = Rose (before name) (now name)
-HasCauseIn before now out_before out_now (Some Write) = Rose out_before out_now
-HasCauseIn before now out_before out_now fault = ⊤
+-- a read fails only where the count of its file's name rose, and a write where that of the output did
+abbrev pub HasCause : Option Command → Counts → Counts → Option Fault → Type 0
+HasCause command before now (Some (ReadFile name)) = Rose (before.files name) (now.files name) × IsEarly command name before.searches now.searches
+HasCause command before now (Some (ReadSource file)) = Rose (before.files file) (now.files file)
+HasCause command before now (Some Write) = Rose before.out now.out
+HasCause command before now fault = ⊤
 
 -- nothing is written with a fault from before the run, whatever the files tell
 abbrev pub IsQuiet : Option Fault → List ℕ → Type 0
-IsQuiet None bytes = ⊤
-IsQuiet (Some Memory) bytes = ⊤
-IsQuiet (Some Write) bytes = ⊤
 IsQuiet (Some Words) bytes = bytes ≡ []
+IsQuiet (Some (QueryText refusal)) bytes = bytes ≡ []
+IsQuiet (Some (QueryType refusal)) bytes = bytes ≡ []
 IsQuiet (Some Unbuilt) bytes = bytes ≡ []
 IsQuiet (Some (Missing name)) bytes = bytes ≡ []
-IsQuiet (Some (Read name)) bytes = bytes ≡ []
-
--- a sink's known bytes and its count of faults, before a call and after it
-pub record Given : Type 0 where
-  pub written_before : Option (List ℕ)
-  pub written_now : Option (List ℕ)
-  pub faults_before : ℕ
-  pub faults_now : ℕ
-
--- the text was written, or a front of it where a write failed
-pub record Says (text : List ℕ) (err : Given) : Type 0 where
-  pub said : List ℕ
-  pub appended : Appends err.written_before err.written_now said
-  pub kept : ℕ
-  pub front : said ≡ take kept text
-  pub cut : kept < length text → Rose err.faults_before err.faults_now
+IsQuiet (Some (ReadFile name)) bytes = bytes ≡ []
+IsQuiet fault bytes = ⊤
 
 -- what a command does
-pub record RanCommand (command : Command) (told : Option Names) (before now : List ℕ → ℕ) (out : Given) (fault : Option Fault) : Type 0 where
+pub record RanCommand (command : Command) (told : Option Names) (before now : Counts) (written_before written_now : Option (List ℕ)) (fault : Option Fault) : Type 0 where
   pub wrote : List ℕ
-  pub appended : Appends out.written_before out.written_now wrote
+  pub appended : Appends written_before written_now wrote
   pub served : fault ≡ Some Words → ⊥
-  pub cause : HasCauseIn before now out.faults_before out.faults_now fault
+  pub cause : HasCause (Some command) before now fault
   pub quiet : IsQuiet fault wrote
-  pub does : (files : Names) → told ≡ Some files → Does (job_of_command command files) fault wrote
+  -- it was stopped before anything was done, or did what the command and the told files ask for
+  pub does : (files : Names) → told ≡ Some files → StopsFirst fault wrote ⊎ ((job : Result Job Fault) × Asks command files job × DoesAsked job fault wrote)
+  -- and where they ask for a job, it is that job and no other
+  pub only : (files : Names) (job : Job) → told ≡ Some files → Asks command files (Ok job) → Does job fault wrote
 
--- the part of a call before it tells of its fault
-pub record Ran (words : List (List ℕ)) (told : Option Names) (before now : List ℕ → ℕ) (out : Given) (fault : Option Fault) : Type 0 where
+-- what a command does once its query is read
+pub record RanAfter (command : Command) (query : Query) (told : Option Names) (before now : Counts) (written_before written_now : Option (List ℕ)) (fault : Option Fault) : Type 0 where
   pub wrote : List ℕ
-  pub appended : Appends out.written_before out.written_now wrote
-  pub refused : (fault ≡ Some Words) ↔ (command_of words ≡ None)
-  pub cause : HasCauseIn before now out.faults_before out.faults_now fault
+  pub appended : Appends written_before written_now wrote
+  pub served : fault ≡ Some Words → ⊥
+  pub cause : HasCause (Some command) before now fault
   pub quiet : IsQuiet fault wrote
-  pub does : (files : Names) → told ≡ Some files → Does (job_of words files) fault wrote
+  pub does : (files : Names) → told ≡ Some files → DoesAsked (job_of command files query) fault wrote
+
+-- what a call does before it tells of its fault
+pub record Ran (words : List (List ℕ)) (told : Option Names) (before now : Counts) (written_before written_now : Option (List ℕ)) (fault : Option Fault) : Type 0 where
+  pub wrote : List ℕ
+  pub appended : Appends written_before written_now wrote
+  pub refused : (fault ≡ Some Words) ↔ (command_of words ≡ None)
+  pub cause : HasCause (command_of words) before now fault
+  pub quiet : IsQuiet fault wrote
+  -- it was stopped before anything was done, or did what the words and the told files ask for
+  pub does : (files : Names) → told ≡ Some files → StopsFirst fault wrote ⊎ ((job : Result Job Fault) × AsksWords (command_of words) files job × DoesAsked job fault wrote)
+  -- and where they ask for a job, it is that job and no other
+  pub only : (files : Names) (job : Job) → told ≡ Some files → AsksWords (command_of words) files (Ok job) → Does job fault wrote
 
 -- the whole call
-pub record Ended (words : List (List ℕ)) (told : Option Names) (before now : List ℕ → ℕ) (out err : Given) (status : ℕ) : Type 0 where
+pub record Call (words : List (List ℕ)) (told : Option Names) (before now : Counts) (out err : Given) (status : ℕ) : Type 0 where
   pub fault : Option Fault
   pub status_is : status ≡ status_of fault
-  pub ran : Ran words told before now out fault
+  pub ran : Ran words told before now out.written_before out.written_now fault
   pub says : Says (fault_line fault) err
 
--- Words that are served, over told files of the forms, with no count rising, give the status of success or that of want of memory.
-abbrev pub IsComplete : List (List ℕ) → Option Names → (List ℕ → ℕ) → (List ℕ → ℕ) → Given → ℕ → Type 0
-IsComplete words told before now out status = (files : Names) (job : Job) → told ≡ Some files → job_of words files ≡ Ok job → ((name : List ℕ) → ¬ (Rose (before name) (now name))) → ¬ (Rose out.faults_before out.faults_now) → (status ≡ 0) ⊎ (status ≡ 6)
+-- a job that no source's lines stop
+abbrev pub IsWhole : Job → Type 0
+IsWhole (RunOver form query items) = AllEnd items
+IsWhole (AnswerAt query items t) = ⊤
+IsWhole (PrintOf query) = ⊤
+
+-- Words and told files that ask for a job, with no count rising, give the status of success or that of want of memory.
+abbrev pub IsComplete : List (List ℕ) → Option Names → Counts → Counts → ℕ → Type 0
+IsComplete words told before now status =
+    (files : Names) (job : Job) → told ≡ Some files → AsksWords (command_of words) files (Ok job) → IsWhole job
+    → ((name : List ℕ) → ¬ (Rose (before.files name) (now.files name))) → ¬ (Rose before.out now.out) → (status ≡ 0) ⊎ (status ≡ 6)

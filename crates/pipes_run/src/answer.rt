@@ -1,153 +1,68 @@
-// The answer of a query at an instant, written as lines.
-ghost use Rattle.std.specs.Prelude.{◌≡◌, ◌≤◌, ◌+◌, nat_le, nat_lt, ◌&&◌, ◌<◌, ◌++◌, ◌∷◌, [], List, ℕ, OnOk, OnErr, IfOk, IsErrOf, length};
-ghost use Rattle.std.specs.List.Sorted.{IsSorted};
-ghost use Rattle.std.specs.Io.KnownBytes.{Appends};
-ghost use Rattle.pipes_edge.specs.Causes.{Rose};
-ghost use Rattle.pipes_tuple.specs.Bag.{SameBag};
-ghost use Rattle.pipes_tuple.specs.Order.{tuple_cmp};
-ghost use Rattle.pipes_plan.specs.Algebra.{alg, bag_lists};
-ghost use Rattle.pipes_plan.specs.PlanKinds.{BagsFit};
-ghost use Rattle.pipes_run.specs.Entry.{tuple_line, tuple_lines};
-ghost use Rattle.pipes_run.specs.Pieces.{AppendsFront};
-ghost use Rattle.pipes_run.specs.Query.{answer, in_window, Time};
-ghost use Rattle.pipes_run.specs.Form.{plan_above};
-ghost use Rattle.pipes_run.specs.Seen.{query_seen, row_seen, rows_seen};
+// Answers at an instant.
+ghost use Rattle.std.specs.Prelude.{◌≡◌, List, ℕ};
+ghost use Rattle.pipes_plan.specs.PlanKinds.{IsTyped};
+ghost use Rattle.pipes_meaning.specs.Answer.{schemas_of};
+ghost use Rattle.pipes_words.specs.Command as command;
+ghost use Rattle.pipes_run.specs.Outcome.{RanAfter, RanCommand};
+ghost use Rattle.pipes_run.specs.Seen.{fault_of, io_fault_of};
 
-use crate::output::{WriteFault, push_fields, write_if_full};
-use crate::pieces::{append, write_all};
-use crate::query::{Query, Row};
-use pipes_edge::Sink;
-use pipes_plan::{Expr, Plan, Schemas, answer};
-use pipes_time::Memory;
-use pipes_tuple::{Kind, Schema, Tuple, Value};
-use sqlite_items::Boxed;
+use crate::query::query_at;
+use pipes_at::{answer_at, write_tuples};
+use pipes_buffer::{BUFFER, IoFault};
+use pipes_edge::{Files, Sink};
+use pipes_fault::Fault;
+use pipes_query::Query;
 use std::alloc::Global;
 
-/// The tuples of the answer at the instant, in their order.
-pub(crate) fn answer_at(
+/// Answers the query of the file with the name, at the instant.
+pub(crate) fn answer_query<'w, F: Files, K: Sink>(
+    alloc: Global,
+    query: &'w str,
+    time: u64,
+    files: &mut F,
+    out: &mut K,
+) -> Result<(), Fault<'w>>
+    ensures { RanCommand (command.At query.now time) (F.told files.old)
+        (record { files = F.faults files.old; searches = F.failed_searches files.old; out = K.faults out.old })
+        (record { files = F.faults files.new; searches = F.failed_searches files.new; out = K.faults out.new })
+        (K.written out.old) (K.written out.new) (fault_of result) }
+{
+    let Ok(mut buffer) = Vec::from_elem(alloc, 0u8, BUFFER) else {
+        return Err(Fault::Memory);
+    };
+    match query_at(alloc, files, query, buffer.as_mut_slice()) {
+        Ok(checked) => answer_checked(alloc, &checked.query, time, files, out),
+        Err(fault) => Err(fault),
+    }
+}
+
+// Answers a query that checks.
+fn answer_checked<F: Files, K: Sink>(
     alloc: Global,
     query: &Query,
-    rows: &[Row],
     time: u64,
-) -> Result<Vec<Tuple>, Memory>
-    ensures bag { IfOk result (λ tuples. SameBag tuples.items (answer (query_seen query.now) (rows_seen rows.now ∷ []) time)) }
-    ensures order { IfOk result (λ tuples. IsSorted tuple_cmp tuples.items) }
-{
-    let bags = one_bag(alloc, valid_rows(alloc, query.size, rows, time)?)?;
-    let mut tuples = answer_over(alloc, query, bags.as_slice())?;
-    tuples.sort()?;
-    Ok(tuples)
-}
-
-// The bags of one source.
-fn one_bag(alloc: Global, rows: Vec<Tuple>) -> Result<Vec<Vec<Tuple>>, Memory>
-    ensures { IfOk result (λ bags. bag_lists bags.items ≡ rows.items ∷ []) }
-{
-    let mut bags = Vec::new(alloc);
-    bags.push(rows)?;
-    Ok(bags)
-}
-
-// The answer of the query's plan.
-fn answer_over(alloc: Global, query: &Query, bags: &[Vec<Tuple>]) -> Result<Vec<Tuple>, Memory>
-    requires { BagsFit (bag_lists bags.now) ((Kind.Int ∷ []) ∷ []) }
-    ensures { IfOk result (λ tuples. tuples.items ≡ alg (plan_above query.now.bound) (bag_lists bags.now)) }
-{
-    let plan = plan_of(alloc, query)?;
-    let schemas = one_number(alloc)?;
-    answer(alloc, &plan, &schemas, bags)
-}
-
-// The rows that are valid at the instant.
-fn valid_rows(alloc: Global, size: u64, rows: &[Row], time: u64) -> Result<Vec<Tuple>, Memory>
-    ensures { IfOk result (λ tuples. tuples.items ≡ in_window (Time size) (rows_seen rows.now) time) }
-{
-    let mut tuples = Vec::new(alloc);
-    'rows: for row in rows {
-        push_valid(alloc, size, *row, time, &mut tuples)?;
-    }
-    Ok(tuples)
-}
-
-fn push_valid(
-    alloc: Global,
-    size: u64,
-    row: Row,
-    time: u64,
-    tuples: &mut Vec<Tuple>,
-) -> Result<(), Memory>
-    ensures { OnOk result (tuples.new.items ≡ tuples.old.items ++ in_window (Time size) (row_seen row ∷ []) time) }
-{
-    if is_valid(row, size, time) {
-        tuples.push(tuple_of(alloc, row)?)?;
-    }
-    Ok(())
-}
-
-fn is_valid(row: Row, size: u64, time: u64) -> bool
-    ensures { result ≡ (nat_le row.stamp time && nat_lt time (row.stamp + size)) }
-{
-    row.stamp <= time && time - row.stamp < size
-}
-
-fn tuple_of(alloc: Global, row: Row) -> Result<Tuple, Memory>
-    ensures { IfOk result (λ tuple. tuple ≡ Value.Int row.value ∷ []) }
-{
-    let mut values = Vec::new(alloc);
-    values.push(Value::Int(row.value))?;
-    Ok(Tuple::new(values).unwrap())
-}
-
-// The query's plan: the rows of its only source whose number is above the bound.
-fn plan_of(alloc: Global, query: &Query) -> Result<Plan, Memory>
-    ensures { IfOk result (λ plan. plan ≡ plan_above query.now.bound) }
-{
-    let number = Boxed::new(alloc, Expr::Int(query.bound))?;
-    let column = Boxed::new(alloc, Expr::Col(0))?;
-    let source = Boxed::new(alloc, Plan::Source(0))?;
-    Ok(Plan::Filter(Expr::Lt(number, column), source))
-}
-
-// The schemas of one source of numbers.
-fn one_number(alloc: Global) -> Result<Schemas, Memory>
-    ensures { IfOk result (λ schemas. schemas ≡ (Kind.Int ∷ []) ∷ []) }
-{
-    let mut kinds = Vec::new(alloc);
-    kinds.push(Kind::Int)?;
-    let mut schemas = Vec::new(alloc);
-    schemas.push(Schema::new(kinds).unwrap())?;
-    Ok(Schemas::new(schemas).unwrap())
-}
-
-/// Writes a line for each tuple.
-pub(crate) fn write_tuples<K: Sink>(
-    alloc: Global,
-    tuples: &[Tuple],
+    files: &mut F,
     out: &mut K,
-) -> Result<(), WriteFault>
-    ensures ok { OnOk result (Appends (K.written out.old) (K.written out.new) (tuple_lines tuples.now)) }
-    ensures front { OnErr result (AppendsFront (K.written out.old) (K.written out.new) (tuple_lines tuples.now)) }
-    ensures later { K.faults out.old ≤ K.faults out.new }
-    ensures cause { IsErrOf result WriteFault.Failed → Rose (K.faults out.old) (K.faults out.new) }
+) -> Result<(), Fault<'static>>
+    requires typed { IsTyped query.now.plan (schemas_of query.now) }
+    ensures { (name : List ℕ) → RanAfter (command.At name time) query.now (F.told files.old)
+        (record { files = F.faults files.old; searches = F.failed_searches files.old; out = K.faults out.old })
+        (record { files = F.faults files.new; searches = F.failed_searches files.new; out = K.faults out.new })
+        (K.written out.old) (K.written out.new) (fault_of result) }
 {
-    let mut text = Vec::new(alloc);
-    'tuples: for tuple in tuples {
-        push_line(&mut text, tuple)?;
-        write_if_full(out, &mut text)?;
+    match answer_at(alloc, files, query, time) {
+        Ok(tuples) => written(write_tuples(alloc, tuples.as_slice(), out)),
+        Err(fault) => Err(fault),
     }
-    write_all(out, text.as_slice())?;
-    Ok(())
 }
 
-fn push_line(text: &mut Vec<u8>, tuple: &Tuple) -> Result<(), Memory>
-    ensures { OnOk result (text.new.items ≡ text.old.items ++ tuple_line tuple.now) }
+/// What came of writing, as what came of the call.
+pub(crate) fn written(done: Result<(), IoFault>) -> Result<(), Fault<'static>>
+    ensures { fault_of result ≡ io_fault_of done }
 {
-    match tuple.as_slice() {
-        [] => {}
-        [first, others @ ..] => {
-            first.print(text)?;
-            push_fields(text, others)?;
-        }
+    match done {
+        Ok(()) => Ok(()),
+        Err(IoFault::Failed) => Err(Fault::Write),
+        Err(IoFault::Memory) => Err(Fault::Memory),
     }
-    append(text, b"\n")
 }

@@ -2,29 +2,30 @@
 #![tactic(auto)]
 
 ghost use Rattle.std.specs.Prelude.{◌≡◌, ◌↔◌, None, map, string_bytes};
-ghost use Rattle.pipes_run.specs.Outcome.{Ended, Ran, RanCommand, IsComplete, command_of};
-ghost use Rattle.pipes_run.specs.Seen.{fault_of, run_seen, at_seen, write_fault_of};
+ghost use Rattle.pipes_words.specs.Command.{command_of};
+ghost use Rattle.pipes_run.specs.Outcome.{Call, Ran, IsComplete};
+ghost use Rattle.pipes_run.specs.Seen.{fault_of};
 
 mod answer;
-mod fault;
-mod form;
-mod job;
-mod output;
-mod pieces;
+mod check;
+mod file;
 mod query;
+mod run;
 #[cfg(test)]
 mod tests;
-mod words;
 
-use answer::{answer_at, write_tuples};
-use fault::{Fault, say, status};
-use job::{read_at, read_run};
-use output::{WriteFault, write_run};
+use answer::answer_query;
+use check::check_query;
 use pipes_edge::{Files, Gate, Sink};
+use pipes_fault::{Fault, say, status};
+use pipes_words::{Command, command_in};
+use run::run_query;
 use std::alloc::Global;
-use words::{AtCommand, Command, RunCommand, command_in};
 
-/// Does what the words ask for, and answers the status.
+/// Does what the words ask for, and answers the status: 0 where all was done, and else that of the first fault, of which `err` gets one line.
+///
+/// The words are `run QUERY SCRIPT [--form stream|normal]`, `at QUERY TIME` or `check QUERY`; files are found by their names, each is read through one
+/// buffer, and a source that a run reads is never held whole. What was written stands, also where a fault comes later. Want of memory gives status 6.
 pub fn pipes<R: AllocGlobal, F: Files, K: Sink, G: Gate>(
     rt: &R,
     words: &[String],
@@ -33,16 +34,19 @@ pub fn pipes<R: AllocGlobal, F: Files, K: Sink, G: Gate>(
     err: &mut K,
     _gate: &G,
 ) -> u8
-    ensures ended { Ended (map string_bytes words.now) (F.told files.old) (F.faults files.old) (F.faults files.new)
+    ensures call { Call (map string_bytes words.now) (F.told files.old)
+        (record { files = F.faults files.old; searches = F.failed_searches files.old; out = K.faults out.old })
+        (record { files = F.faults files.new; searches = F.failed_searches files.new; out = K.faults out.new })
         (record { written_before = K.written out.old; written_now = K.written out.new; faults_before = K.faults out.old; faults_now = K.faults out.new })
         (record { written_before = K.written err.old; written_now = K.written err.new; faults_before = K.faults err.old; faults_now = K.faults err.new })
         result }
     ensures refused { (result ≡ 1) ↔ (command_of (map string_bytes words.now) ≡ None) }
-    ensures complete { IsComplete (map string_bytes words.now) (F.told files.old) (F.faults files.old) (F.faults files.new)
-        (record { written_before = K.written out.old; written_now = K.written out.new; faults_before = K.faults out.old; faults_now = K.faults out.new })
+    ensures complete { IsComplete (map string_bytes words.now) (F.told files.old)
+        (record { files = F.faults files.old; searches = F.failed_searches files.old; out = K.faults out.old })
+        (record { files = F.faults files.new; searches = F.failed_searches files.new; out = K.faults out.new })
         result }
 {
-    match run(rt.alloc(), words, files, out) {
+    match do_command(rt.alloc(), words, files, out) {
         Ok(()) => 0,
         Err(fault) => {
             say(err, &fault);
@@ -52,69 +56,27 @@ pub fn pipes<R: AllocGlobal, F: Files, K: Sink, G: Gate>(
 }
 
 // Does what the words command.
-fn run<'w, F: Files, K: Sink>(
+fn do_command<'w, F: Files, K: Sink>(
     alloc: Global,
     words: &'w [String],
     files: &mut F,
     out: &mut K,
 ) -> Result<(), Fault<'w>>
-    ensures { Ran (map string_bytes words.now) (F.told files.old) (F.faults files.old) (F.faults files.new)
-        (record { written_before = K.written out.old; written_now = K.written out.new; faults_before = K.faults out.old; faults_now = K.faults out.new })
-        (fault_of result) }
+    ensures { Ran (map string_bytes words.now) (F.told files.old)
+        (record { files = F.faults files.old; searches = F.failed_searches files.old; out = K.faults out.old })
+        (record { files = F.faults files.new; searches = F.failed_searches files.new; out = K.faults out.new })
+        (K.written out.old) (K.written out.new) (fault_of result) }
 {
     match command_in(words) {
         None => Err(Fault::Words),
-        Some(Command::Run(run)) => write_results(alloc, run, files, out),
-        Some(Command::At(at)) => write_answer(alloc, at, files, out),
-    }
-}
-
-// Reads all that the run needs, and then writes its results.
-fn write_results<'w, F: Files, K: Sink>(
-    alloc: Global,
-    run: RunCommand<'w>,
-    files: &mut F,
-    out: &mut K,
-) -> Result<(), Fault<'w>>
-    ensures { RanCommand (run_seen run.entry) (F.told files.old) (F.faults files.old) (F.faults files.new)
-        (record { written_before = K.written out.old; written_now = K.written out.new; faults_before = K.faults out.old; faults_now = K.faults out.new })
-        (fault_of result) }
-{
-    let asked = match read_run(alloc, files, run) {
-        Ok(asked) => asked,
-        Err(fault) => return Err(fault),
-    };
-    told(write_run(alloc, &asked.query, asked.rows.as_slice(), out))
-}
-
-// Reads all that the answer needs, and then writes its lines.
-fn write_answer<'w, F: Files, K: Sink>(
-    alloc: Global,
-    at: AtCommand<'w>,
-    files: &mut F,
-    out: &mut K,
-) -> Result<(), Fault<'w>>
-    ensures { RanCommand (at_seen at.entry) (F.told files.old) (F.faults files.old) (F.faults files.new)
-        (record { written_before = K.written out.old; written_now = K.written out.new; faults_before = K.faults out.old; faults_now = K.faults out.new })
-        (fault_of result) }
-{
-    let asked = match read_at(alloc, files, at) {
-        Ok(asked) => asked,
-        Err(fault) => return Err(fault),
-    };
-    let Ok(tuples) = answer_at(alloc, &asked.query, asked.rows.as_slice(), at.time) else {
-        return Err(Fault::Memory);
-    };
-    told(write_tuples(alloc, tuples.as_slice(), out))
-}
-
-// What came of writing, as what came of the call.
-fn told(written: Result<(), WriteFault>) -> Result<(), Fault<'static>>
-    ensures { fault_of result ≡ write_fault_of written }
-{
-    match written {
-        Ok(()) => Ok(()),
-        Err(WriteFault::Failed) => Err(Fault::Write),
-        Err(WriteFault::Memory) => Err(Fault::Memory),
+        Some(
+            Command::Run {
+                query,
+                script,
+                form,
+            },
+        ) => run_query(alloc, query, script, form, files, out),
+        Some(Command::At { query, time }) => answer_query(alloc, query, time, files, out),
+        Some(Command::Check { query }) => check_query(alloc, query, files, out),
     }
 }

@@ -1,29 +1,90 @@
-// A query of the form that is served, and the rows of its source.
-ghost use Rattle.std.specs.Prelude.{◌≤◌, ◌<◌};
-ghost use Rattle.pipes_time.specs.Interval.{horizon};
+// The query of a call.
+ghost use Rattle.std.specs.Prelude.{◌≡◌, ◌<◌, ◌≤◌, [], Some, Ok, IfOk, IfErr, length};
+ghost use Rattle.pipes_edge.specs.Outside.{Names, NoneFalls};
+ghost use Rattle.pipes_plan.specs.Refusals.{Checks, IsChecked};
+ghost use Rattle.pipes_query.specs.declared.query.Query.{Query as AQuery};
+ghost use Rattle.pipes_query.specs.Texts.{IsFile};
+ghost use Rattle.pipes_meaning.specs.Answer.{schemas_of};
+ghost use Rattle.pipes_fault.specs.Fault.{fault_seen};
+ghost use Rattle.pipes_run.specs.Asked.{Holds, Writes};
+ghost use Rattle.pipes_run.specs.Seen.{IsOfQuery, IsOfText, IsReadOf, IsTypeRefusal, GivesQuery, GivesNoOther, HasText, HasSchema};
 
-/// The rows of a source of numbers, in a time window, whose number is above the bound.
-#[derive(Debug, Drop)]
-pub(crate) struct Query {
-    pub(crate) file: String,
-    pub(crate) size: u64,
-    pub(crate) bound: i64,
-    ghost sized: { 1 ≤ size },
+use crate::file::read_file;
+use pipes_edge::Files;
+use pipes_fault::Fault;
+use pipes_plan::CheckFault;
+use pipes_query::{Query, ReadFault, read_query};
+use pipes_tuple::Schema;
+use std::alloc::Global;
+
+/// The most bytes of a query's text.
+const LONGEST_QUERY: usize = 1_048_576;
+
+/// A query that checks, and the kinds of the columns of its result.
+#[derive(Drop)]
+pub(crate) struct CheckedQuery {
+    pub(crate) query: Query,
+    pub(crate) schema: Schema,
 }
 
-/// What a query's text says.
-#[derive(Clone, Copy, Debug)]
-pub(crate) struct QueryText<'a> {
-    pub(crate) file: &'a [u8],
-    pub(crate) size: u64,
-    pub(crate) bound: i64,
-    ghost sized: { 1 ≤ size },
+/// The query in the file with the name, which checks.
+pub(crate) fn query_at<'w, F: Files>(
+    alloc: Global,
+    files: &mut F,
+    name: &'w str,
+    buffer: &mut [u8],
+) -> Result<CheckedQuery, Fault<'w>>
+    requires { 0 < length buffer.old }
+    ensures told { F.told files.new ≡ F.told files.old }
+    ensures later { NoneFalls (F.faults files.old) (F.faults files.new) }
+    ensures searches { F.failed_searches files.old ≤ F.failed_searches files.new }
+    ensures served { IfErr result (λ e. IsOfQuery (fault_seen e)) }
+    ensures cause { IfErr result (λ e. IsReadOf name.now (F.faults files.old) (F.faults files.new) (fault_seen e)) }
+    ensures text { IfOk result (λ checked. HasText checked.query) }
+    ensures schema { IfOk result HasSchema }
+    ensures gives { (named : Names) → F.told files.old ≡ Some named → GivesQuery name.now (named name.now) result }
+    ensures only { (named : Names) (query : AQuery) → F.told files.old ≡ Some named → Holds name.now (named name.now) (Ok query) → GivesNoOther query result }
+{
+    let bytes = match read_file(alloc, files, name, LONGEST_QUERY, buffer) {
+        Ok(bytes) => bytes,
+        Err(fault) => return Err(fault.of_word(name)),
+    };
+    query_in(alloc, bytes.as_slice())
 }
 
-/// A row of a source.
-#[derive(Clone, Copy, Debug)]
-pub(crate) struct Row {
-    pub(crate) stamp: u64,
-    pub(crate) value: i64,
-    ghost instant: { stamp < horizon },
+// The query that the bytes write, which checks.
+fn query_in(alloc: Global, bytes: &[u8]) -> Result<CheckedQuery, Fault<'static>>
+    ensures served { IfErr result (λ e. IsOfText (fault_seen e)) }
+    ensures text { IfOk result (λ checked. IsFile checked.query bytes.now) }
+    ensures schema { IfOk result HasSchema }
+    ensures gives { GivesQuery [] (Some bytes.now) result }
+    ensures only { (query : AQuery) → Writes bytes.now (Ok query) → GivesNoOther query result }
+{
+    match read_query(alloc, bytes) {
+        Ok(query) => checked(alloc, query),
+        Err(ReadFault::Text(refusal)) => Err(Fault::QueryText(refusal)),
+        Err(ReadFault::Memory) => Err(Fault::Memory),
+    }
+}
+
+// The query and its result's kinds, if its plan checks.
+fn checked(alloc: Global, query: Query) -> Result<CheckedQuery, Fault<'static>>
+    ensures same { IfOk result (λ checked. checked.query ≡ query) }
+    ensures checks { IfOk result (λ checked. Checks (schemas_of query) query.plan) }
+    ensures schema { IfOk result HasSchema }
+    ensures refused { IfErr result (λ e. IsTypeRefusal query (fault_seen e)) }
+{
+    match result_schema(alloc, &query) {
+        Ok(schema) => Ok(CheckedQuery { query, schema }),
+        Err(CheckFault::Refused(refusal)) => Err(Fault::QueryType(refusal)),
+        Err(CheckFault::Memory) => Err(Fault::Memory),
+    }
+}
+
+// The kinds of the columns of the query's result, or why its plan doesn't check.
+fn result_schema(alloc: Global, query: &Query) -> Result<Schema, CheckFault>
+    ensures { IsChecked result (schemas_of query.now) query.now.plan }
+{
+    let schemas = query.schemas(alloc)?;
+    query.plan.check(alloc, &schemas)
 }

@@ -1,4 +1,6 @@
-// Runs over files in memory.
+// Calls over files in memory.
+mod plans;
+
 use crate::pipes;
 use pipes_edge::{MemFiles, MemSink, NoGate};
 use std::alloc::Global;
@@ -11,6 +13,12 @@ const ROWS: &str = "at,v\n0,7\n1,8\n";
 
 const WHOLE: &str = "+ 0 3 7\n+ 1 4 8\nend\n";
 
+const RUN: &[&str] = &["run", "q.txt", "s.txt"];
+
+const NORMAL: &[&str] = &["run", "q.txt", "s.txt", "--form", "normal"];
+
+const CHECK: &[&str] = &["check", "q.txt"];
+
 fn words(alloc: Global, list: &[&str]) -> Result<Vec<String>, Fail> {
     let mut words = Vec::new(alloc);
     for word in list {
@@ -19,7 +27,7 @@ fn words(alloc: Global, list: &[&str]) -> Result<Vec<String>, Fail> {
     Ok(words)
 }
 
-// The files of a run.
+// A query, an empty script and one source.
 fn files(alloc: Global, query: &str, rows: &str) -> Result<MemFiles, Fail> {
     let mut files = MemFiles::new(alloc);
     files.add("q.txt", query.as_bytes())?;
@@ -29,7 +37,7 @@ fn files(alloc: Global, query: &str, rows: &str) -> Result<MemFiles, Fail> {
 }
 
 // Calls with these words, and compares the status, the output and the line of the fault.
-fn check<R: AllocGlobal + Abort>(
+fn expect_call<R: AllocGlobal + Abort>(
     rt: &R,
     list: &[&str],
     mut files: MemFiles,
@@ -52,158 +60,269 @@ fn check<R: AllocGlobal + Abort>(
     Ok(())
 }
 
-const RUN: &[&str] = &["run", "q.txt", "s.txt"];
+// The same, of a query over one source's rows.
+fn expect_rows<R: AllocGlobal + Abort>(
+    rt: &R,
+    list: &[&str],
+    query: &str,
+    rows: &str,
+    want: (u8, &str, &str),
+) -> Result<(), Fail> {
+    let alloc = rt.alloc();
+    expect_call(
+        rt,
+        list,
+        files(alloc, query, rows)?,
+        MemSink::new(alloc, 100),
+        want,
+    )
+}
+
+const COUNT_TWO: &str = "source a from \"a.csv\" (v int) window count 2\nplan a\n";
+
+const COUNT_ONE: &str = "source a from \"a.csv\" (v int) window count 1\nplan a\n";
+
+const TWO_FILTERS: &str =
+    "source a from \"a.csv\" (v int) window time 10\nplan filter((0 < $0), filter(($0 < 100), a))\n";
+
+const TEXTS: &str = "source a from \"a.csv\" (s text, f flag) window time 2\nplan filter($1, a)\n";
 
 #[test]
-fn a_run_writes_its_results(rt: HostRuntime) -> Result<(), Fail> {
-    let alloc = rt.alloc();
-    for most in [1, 4, 100] {
-        let out = MemSink::new(alloc, most);
-        check(&rt, RUN, files(alloc, QUERY, ROWS)?, out, (0, WHOLE, ""))?;
-    }
+fn runs_of_windows_of_both_kinds(rt: HostRuntime) -> Result<(), Fail> {
     for (rows, want) in [
+        (ROWS, WHOLE),
         ("at,v\n0,7\n1,8", WHOLE),
-        ("at,v\n", "end\n"),
+        ("at,v\r\n0,7\r\n\r\n1,8\r\n", WHOLE),
         ("at,v", "end\n"),
-        ("at,v\n0,0\n0,-7\n5,1\n5,1\n", "+ 5 8 1\n+ 5 8 1\nend\n"),
+        (
+            "stamp,number\n0,0\n0,-7\n5,1\n5,1\n",
+            "+ 5 8 1\n+ 5 8 1\nend\n",
+        ),
         (
             "at,v\n999999999999999,9\n",
             "+ 999999999999999 1000000000000000 9\nend\n",
         ),
     ] {
-        let out = MemSink::new(alloc, 100);
-        check(&rt, RUN, files(alloc, QUERY, rows)?, out, (0, want, ""))?;
+        expect_rows(&rt, RUN, QUERY, rows, (0, want, ""))?;
+    }
+    let normal = "= 1 4 1 8\n= 1 1000000000000000 1 7\n= 4 1000000000000000 1 9\n";
+    expect_rows(
+        &rt,
+        NORMAL,
+        COUNT_TWO,
+        "at,v\n1,8\n1,7\n4,9\n",
+        (0, normal, ""),
+    )?;
+    let last = "= 1 1000000000000000 1 8\n";
+    expect_rows(&rt, NORMAL, COUNT_ONE, "at,v\n1,7\n1,8\n", (0, last, ""))
+}
+
+#[test]
+fn texts_quotes_and_heartbeats(rt: HostRuntime) -> Result<(), Fail> {
+    let rows = "at,s,f\n0,\"a,\"\"b\"\"\",true\n0001,,false\n1,x y,true\n\n7\n";
+    let want = "+ 0 2 \"a,\\\"b\\\"\" true\n+ 1 3 \"x y\" true\nend\n";
+    expect_rows(&rt, RUN, TEXTS, rows, (0, want, ""))?;
+    // The last item is a heartbeat, and a row before it is refused as one that falls behind it.
+    let late = "at,s,f\n0,a,true\n7\n6,b,true\n";
+    let want = (
+        3,
+        "+ 0 2 \"a\" true\nstop\n",
+        "pipes: row a 4 falling 6 7\n",
+    );
+    expect_rows(&rt, RUN, TEXTS, late, want)
+}
+
+#[test]
+fn a_refused_line_stops_the_run(rt: HostRuntime) -> Result<(), Fail> {
+    for (rows, out, line) in [
+        ("", "stop\n", "pipes: row a 1 header\n"),
+        (
+            "at,v\n3,1\n5,2\n4,3\n",
+            "+ 3 13 1\n+ 5 15 2\nstop\n",
+            "pipes: row a 4 falling 4 5\n",
+        ),
+        (
+            "at,v\n0,5\n5,6,7\n20\n",
+            "+ 0 10 5\nstop\n",
+            "pipes: row a 3 fields\n",
+        ),
+        (
+            "at,v\n0,5\nx,6\n20\n",
+            "+ 0 10 5\nstop\n",
+            "pipes: row a 3 stamp\n",
+        ),
+        (
+            "at,v\n0,5\n1000000000000000,6\n",
+            "+ 0 10 5\nstop\n",
+            "pipes: row a 3 range\n",
+        ),
+        (
+            "at,v\n5,9223372036854775808\n",
+            "stop\n",
+            "pipes: row a 2 value 0 intrange\n",
+        ),
+        ("at,v\n5,five\n", "stop\n", "pipes: row a 2 value 0 int\n"),
+        ("at,v\n5,1\r5,2\n", "stop\n", "pipes: row a 2 fields\n"),
+    ] {
+        expect_rows(&rt, RUN, TWO_FILTERS, rows, (3, out, line))?;
     }
     Ok(())
 }
 
 #[test]
-fn words_that_are_not_served(rt: HostRuntime) -> Result<(), Fail> {
-    let alloc = rt.alloc();
-    let lists: [&[&str]; 13] = [
+fn the_normal_form_before_a_refused_line(rt: HostRuntime) -> Result<(), Fail> {
+    let rows = "at,v\n3,1\n5,2\n4,3\n";
+    let want = (
+        3,
+        "= 3 13 1 1\n= 5 15 1 2\n",
+        "pipes: row a 4 falling 4 5\n",
+    );
+    expect_rows(&rt, NORMAL, TWO_FILTERS, rows, want)?;
+    expect_rows(
+        &rt,
+        NORMAL,
+        TWO_FILTERS,
+        "",
+        (3, "", "pipes: row a 1 header\n"),
+    )
+}
+
+#[test]
+fn words_that_are_no_command(rt: HostRuntime) -> Result<(), Fail> {
+    let lists: [&[&str]; 8] = [
         &[],
         &["run", "q.txt"],
-        &["run", "q.txt", "s.txt", "s.txt"],
-        &["run", "q.txt", "-s"],
         &["run", "", "s.txt"],
-        &["Run", "q.txt", "s.txt"],
-        &["at", "q.txt"],
-        &["at", "-q", "1"],
-        &["at", "q.txt", ""],
-        &["at", "q.txt", "-1"],
-        &["at", "q.txt", "+1"],
         &["at", "q.txt", "1000000000000000"],
-        &["at", "q.txt", "18446744073709551617"],
+        &["check"],
+        &["run", "q.txt", "s.txt", "--form", "text"],
+        &["run", "--form", "normal", "q.txt", "s.txt"],
+        &["run", "q.txt", "s.txt", "--form"],
     ];
     for list in lists {
-        let out = MemSink::new(alloc, 100);
-        let want = (1, "", "pipes: words\n");
-        check(&rt, list, files(alloc, QUERY, ROWS)?, out, want)?;
+        expect_rows(&rt, list, QUERY, ROWS, (1, "", "pipes: words\n"))?;
     }
     Ok(())
 }
 
 #[test]
-fn an_answer_at_an_instant(rt: HostRuntime) -> Result<(), Fail> {
-    let alloc = rt.alloc();
-    for (time, want) in [
-        ("0", "7\n"),
-        ("1", "7\n8\n"),
-        ("0002", "7\n8\n"),
-        ("3", "8\n"),
-        ("4", ""),
-        ("999999999999999", ""),
+fn queries_that_are_refused(rt: HostRuntime) -> Result<(), Fail> {
+    for (query, line) in [
+        ("", "pipes: query 1 1 end\n"),
+        (
+            "source a from \"a.csv\" (v int) window time 10\nplan",
+            "pipes: query 2 5 end\n",
+        ),
+        (
+            "source a from \"a.csv\" (v int) window time 3\nplan filter($0, a)\n",
+            "pipes: query type 0 kind\n",
+        ),
     ] {
-        let at = ["at", "q.txt", time];
-        check(
-            &rt,
-            &at,
-            files(alloc, QUERY, ROWS)?,
-            MemSink::new(alloc, 1),
-            (0, want, ""),
-        )?;
+        for list in [RUN, CHECK, &["at", "q.txt", "1"]] {
+            expect_rows(&rt, list, query, ROWS, (2, "", line))?;
+        }
     }
-    // By number, one line for each copy.
-    let query = "source a from \"a.csv\" (v int) window time 3\nplan filter((-100 < $0), a)\n";
-    let rows = "at,v\n0,10\n0,9\n0,-20\n1,9\n1,-100\n";
-    let at = ["at", "q.txt", "1"].as_slice();
-    let want = (0, "-20\n9\n9\n10\n", "");
-    check(
-        &rt,
-        at,
-        files(alloc, query, rows)?,
-        MemSink::new(alloc, 100),
-        want,
-    )?;
-    // What is wrong comes before what is written, and what was written is a front.
-    let mut out = MemSink::new(alloc, 2);
-    out.fail_at(2)?;
-    let want = (5, "-2", "pipes: write\n");
-    check(&rt, at, files(alloc, query, rows)?, out, want)?;
-    let want = (9, "", "pipes: unbuilt\n");
-    check(
-        &rt,
-        at,
-        files(alloc, query, "at,v\n1,x\n")?,
-        MemSink::new(alloc, 2),
-        want,
-    )?;
-    let want = (4, "", "pipes: missing \"q.txt\"\n");
-    check(&rt, at, MemFiles::new(alloc), MemSink::new(alloc, 2), want)
+    Ok(())
 }
 
 #[test]
-fn faults_of_files(rt: HostRuntime) -> Result<(), Fail> {
+fn a_query_is_checked(rt: HostRuntime) -> Result<(), Fail> {
+    let laid_out = "source  a from\t\"a.csv\" (v int)window time 3 # three\nplan filter((0<$0),a)";
+    let printed =
+        "source a from \"a.csv\" (v int) window time 3\nplan filter((0 < $0), a)\nkinds int\n";
+    expect_rows(&rt, CHECK, QUERY, ROWS, (0, printed, ""))?;
+    expect_rows(&rt, CHECK, laid_out, ROWS, (0, printed, ""))?;
+    let texts =
+        "source a from \"a.csv\" (s text, f flag) window time 2\nplan filter($1, a)\nkinds text flag\n";
+    expect_rows(&rt, CHECK, TEXTS, ROWS, (0, texts, ""))
+}
+
+const JOIN: &str =
+    "source bids from \"bids.csv\" (item int, price int) window time 5\nsource asks from \"asks.csv\" (item int, price int) window time 5\nplan join([0=0], true, bids, asks)\n";
+
+fn market(alloc: Global) -> Result<MemFiles, Fail> {
+    let mut files = MemFiles::new(alloc);
+    files.add("q.txt", JOIN.as_bytes())?;
+    files.add("s.txt", b"")?;
+    files.add("bids.csv", b"at,item,price\n0,1,10\n3,2,20\n")?;
+    files.add("asks.csv", b"at,item,price\n2,1,9\n6,2,21\n")?;
+    Ok(files)
+}
+
+#[test]
+fn answers_at_an_instant(rt: HostRuntime) -> Result<(), Fail> {
     let alloc = rt.alloc();
-    for (name, read, missing) in [
-        (
-            "q.txt",
-            "pipes: read \"q.txt\"\n",
-            "pipes: missing \"q.txt\"\n",
-        ),
-        (
-            "s.txt",
-            "pipes: read \"s.txt\"\n",
-            "pipes: missing \"s.txt\"\n",
-        ),
+    for (time, want) in [("2", "1 10 1 9\n"), ("5", ""), ("0007", "2 20 2 21\n")] {
+        let out = MemSink::new(alloc, 1);
+        let at = ["at", "q.txt", time];
+        expect_call(&rt, &at, market(alloc)?, out, (0, want, ""))?;
+    }
+    let at = ["at", "q.txt", "1"].as_slice();
+    // By number, one line for each copy.
+    let rows = "at,v\n0,10\n0,9\n0,20\n1,9\n";
+    expect_rows(&rt, at, QUERY, rows, (0, "9\n9\n10\n20\n", ""))?;
+    // Nothing is told of rows before one that is refused.
+    let rows = "at,v\n0,10\n0,x\n";
+    expect_rows(
+        &rt,
+        at,
+        QUERY,
+        rows,
+        (3, "", "pipes: row a 3 value 0 int\n"),
+    )
+}
+
+#[test]
+fn what_is_not_served_yet(rt: HostRuntime) -> Result<(), Fail> {
+    let alloc = rt.alloc();
+    let unbuilt = (9, "", "pipes: unbuilt\n");
+    expect_call(&rt, RUN, market(alloc)?, MemSink::new(alloc, 9), unbuilt)?;
+    let mut scripted = files(alloc, QUERY, ROWS)?;
+    scripted.add("s.txt", b" ")?;
+    expect_call(&rt, RUN, scripted, MemSink::new(alloc, 9), unbuilt)
+}
+
+#[test]
+fn files_that_are_missing(rt: HostRuntime) -> Result<(), Fail> {
+    let alloc = rt.alloc();
+    let mut lacking = MemFiles::new(alloc);
+    let want = (4, "", "pipes: missing \"q.txt\"\n");
+    expect_call(&rt, RUN, lacking, MemSink::new(alloc, 9), want)?;
+    lacking = MemFiles::new(alloc);
+    lacking.add("q.txt", QUERY.as_bytes())?;
+    let want = (4, "", "pipes: missing \"s.txt\"\n");
+    expect_call(&rt, RUN, lacking, MemSink::new(alloc, 9), want)?;
+    lacking = MemFiles::new(alloc);
+    lacking.add("q.txt", QUERY.as_bytes())?;
+    lacking.add("s.txt", b"")?;
+    let want = (4, "", "pipes: missing \"a.csv\"\n");
+    expect_call(&rt, RUN, lacking, MemSink::new(alloc, 9), want)
+}
+
+#[test]
+fn reads_that_fail(rt: HostRuntime) -> Result<(), Fail> {
+    let alloc = rt.alloc();
+    for (name, call, out, line) in [
+        ("q.txt", 1, "", "pipes: read \"q.txt\"\n"),
+        ("q.txt", 2, "", "pipes: read \"q.txt\"\n"),
+        ("s.txt", 1, "", "pipes: read \"s.txt\"\n"),
+        ("a.csv", 1, "stop\n", "pipes: read \"a.csv\"\n"),
         (
             "a.csv",
+            2,
+            "+ 0 3 7\n+ 1 4 8\nstop\n",
             "pipes: read \"a.csv\"\n",
-            "pipes: missing \"a.csv\"\n",
         ),
     ] {
-        for call in [1, 2] {
-            let mut failing = files(alloc, QUERY, ROWS)?;
-            failing.fail_at(name, call)?;
-            // A script is read until it has a byte: its end is its first read.
-            if name != "s.txt" || call == 1 {
-                let out = MemSink::new(alloc, 100);
-                check(&rt, RUN, failing, out, (4, "", read))?;
-            }
-        }
-        let mut lacking = MemFiles::new(alloc);
-        for (other, bytes) in [("q.txt", QUERY), ("s.txt", ""), ("a.csv", ROWS)] {
-            if other != name {
-                lacking.add(other, bytes.as_bytes())?;
-            }
-        }
-        check(
-            &rt,
-            RUN,
-            lacking,
-            MemSink::new(alloc, 100),
-            (4, "", missing),
-        )?;
+        let mut failing = files(alloc, QUERY, ROWS)?;
+        failing.fail_at(name, call)?;
+        expect_call(&rt, RUN, failing, MemSink::new(alloc, 100), (4, out, line))?;
     }
-    let odd = ["run", "a\"b\\c\nd\re", "s.txt"].as_slice();
-    let want = (4, "", "pipes: missing \"a\\\"b\\\\c\\nd\\re\"\n");
-    check(
-        &rt,
-        odd,
-        MemFiles::new(alloc),
-        MemSink::new(alloc, 100),
-        want,
-    )
+    let mut failing = files(alloc, QUERY, ROWS)?;
+    failing.fail_at("a.csv", 2)?;
+    let at = ["at", "q.txt", "1"].as_slice();
+    let want = (4, "", "pipes: read \"a.csv\"\n");
+    expect_call(&rt, at, failing, MemSink::new(alloc, 100), want)
 }
 
 #[test]
@@ -214,98 +333,22 @@ fn a_write_that_fails_leaves_a_front(rt: HostRuntime) -> Result<(), Fail> {
         out.fail_at(call)?;
         let kept = usize::try_from(call)?.saturating_sub(1);
         let want = (5, WHOLE.get(..kept).ok_or("no front")?, "pipes: write\n");
-        check(&rt, RUN, files(alloc, QUERY, ROWS)?, out, want)?;
+        expect_call(&rt, RUN, files(alloc, QUERY, ROWS)?, out, want)?;
     }
-    let mut out = MemSink::new(alloc, 4);
-    out.fail_at(3)?;
-    check(
-        &rt,
-        RUN,
-        files(alloc, QUERY, ROWS)?,
-        out,
-        (5, "+ 0 3 7\n", "pipes: write\n"),
-    )
+    Ok(())
 }
 
 #[test]
-fn texts_of_no_form(rt: HostRuntime) -> Result<(), Fail> {
+fn a_source_past_its_limit(rt: HostRuntime) -> Result<(), Fail> {
     let alloc = rt.alloc();
-    let unbuilt = (9, "", "pipes: unbuilt\n");
-    for query in [
-        "",
-        "source a from \"a.csv\" (v int) window time 3\nplan filter((0 < $0), b)\n",
-        "source a from \"a.csv\" (v int) window time 3\nplan filter((0 < $0), a)\n\n",
-        "source a  from \"a.csv\" (v int) window time 3\nplan filter((0 < $0), a)\n",
-        "source a from \"a.csv\" (v int) window time 0\nplan filter((0 < $0), a)\n",
-        "source a from \"a/b\" (v int) window time 3\nplan filter((0 < $0), a)\n",
-        "source a from \"\" (v int) window time 3\nplan filter((0 < $0), a)\n",
-        "source plan from \"a.csv\" (v int) window time 3\nplan filter((0 < $0), plan)\n",
-        "source a from \"a.csv\" (v text) window time 3\nplan filter((0 < $0), a)\n",
-        "source a from \"a.csv\" (v int) window time 1000000000000000\nplan filter((0 < $0), a)\n",
-        "source a from \"a.csv\" (v int) window time 3\nplan filter((+1 < $0), a)\n",
-    ] {
-        let out = MemSink::new(alloc, 100);
-        check(&rt, RUN, files(alloc, query, ROWS)?, out, unbuilt)?;
+    let mut lines = String::new(alloc);
+    for _ in 0..1000 {
+        lines.push_str("0\n")?;
     }
-    for rows in [
-        "",
-        "\n",
-        "at\n",
-        "at,V\n",
-        "at,v\n\n",
-        "at,v\n3,1\n2,1\n",
-        "at,v\r\n0,1\r\n",
-        "at,v\n1\n",
-        "at,v\n1,2,3\n",
-        "at,v\n1000000000000000,1\n",
-        "at,v\n0,1234567890123456789\n",
-        "at,v\n0,--1\n",
-    ] {
-        let out = MemSink::new(alloc, 100);
-        check(&rt, RUN, files(alloc, QUERY, rows)?, out, unbuilt)?;
+    let mut rows = String::from_str(alloc, "at,v\n0\n")?;
+    for _ in 0..4000 {
+        rows.push_str(lines.as_str())?;
     }
-    let mut scripted = files(alloc, QUERY, ROWS)?;
-    scripted.add("s.txt", b" ")?;
-    check(&rt, RUN, scripted, MemSink::new(alloc, 100), unbuilt)?;
-    // Any column may have a keyword's name.
-    let query = "source a from \"a.csv\" (plan int) window time 3\nplan filter((0 < $0), a)";
-    check(
-        &rt,
-        RUN,
-        files(alloc, query, ROWS)?,
-        MemSink::new(alloc, 100),
-        (0, WHOLE, ""),
-    )
-}
-
-#[test]
-fn sources_at_the_limit(rt: HostRuntime) -> Result<(), Fail> {
-    let alloc = rt.alloc();
-    // A header of 6 bytes, and rows of 7 bytes, to the last byte that a source may have.
-    let mut rows = String::from_str(alloc, "at,vv\n")?;
-    let mut want = String::new(alloc);
-    for _ in 0..149_795 {
-        rows.push_str("10,200\n")?;
-        want.push_str("+ 10 13 200\n")?;
-    }
-    rows.push_str("10,20")?;
-    want.push_str("+ 10 13 20\nend\n")?;
-    assert_eq!(rt; rows.len(), 1_048_576);
-    let out = MemSink::new(alloc, 10_000);
-    check(
-        &rt,
-        RUN,
-        files(alloc, QUERY, rows.as_str())?,
-        out,
-        (0, want.as_str(), ""),
-    )?;
-    rows.push_str("0")?;
-    let out = MemSink::new(alloc, 10_000);
-    check(
-        &rt,
-        RUN,
-        files(alloc, QUERY, rows.as_str())?,
-        out,
-        (9, "", "pipes: unbuilt\n"),
-    )
+    let want = (8, "stop\n", "pipes: limit a 4000002\n");
+    expect_rows(&rt, RUN, QUERY, rows.as_str(), want)
 }

@@ -1,23 +1,16 @@
-use Rattle.std.proofs.Common.{refl, None, Some}
-use Rattle.pipes_run.specs.Seen.{fault_seen}
-use Rattle.pipes_run.proofs.Appended.{says_nothing}
-use Rattle.pipes_run.proofs.Ending.{refused_words, complete}
+use Rattle.std.proofs.Common.{map, string_bytes, None, refl}
+use Rattle.pipes_fault.specs.Fault.{fault_seen}
+use Rattle.pipes_run.proofs.Calls.{says_nothing, complete}
 use Rattle.pipes_run.proofs.pipes.Goals as goal
 
-pub returns-in-Ok-clause-ended : goal.returns-in-Ok-clause-ended
-returns-in-Ok-clause-ended g c = record { fault = None; status_is = refl; ran = c.in-Ok.ensures; says = says_nothing _ _ }
-
-pub returns-in-Ok-clause-refused : goal.returns-in-Ok-clause-refused
-returns-in-Ok-clause-refused g c = refused_words _ _ _ _ _ _ _ (returns-in-Ok-clause-ended g c)
-
-pub returns-in-Ok-clause-complete : goal.returns-in-Ok-clause-complete
-returns-in-Ok-clause-complete g c = complete _ _ _ _ _ _ _ (returns-in-Ok-clause-ended g c)
-
-pub returns-in-Err-clause-ended : goal.returns-in-Err-clause-ended
-returns-in-Err-clause-ended g c = record { fault = Some (fault_seen c.in-Err.fault); status_is = c.status.ensures; ran = c.in-Err.ensures; says = c.say.ensures }
-
-pub returns-in-Err-clause-refused : goal.returns-in-Err-clause-refused
-returns-in-Err-clause-refused g c = refused_words _ _ _ _ _ _ _ (returns-in-Err-clause-ended g c)
+pub returns-in-Ok-clause-call : goal.returns-in-Ok-clause-call
+returns-in-Ok-clause-call g c = record {
+  fault = None;
+  status_is = refl;
+  ran = c.in-Ok.ensures;
+  says = says_nothing (g.K.Sink.written c.args.err.now) (g.K.Sink.faults c.args.err.now);
+}
 
 pub returns-in-Err-clause-complete : goal.returns-in-Err-clause-complete
-returns-in-Err-clause-complete g c = complete _ _ _ _ _ _ _ (returns-in-Err-clause-ended g c)
+returns-in-Err-clause-complete g c =
+    complete (map string_bytes c.args.words.now) (g.F.Files.told c.args.files.now) _ _ (g.K.Sink.written c.args.out.now) (g.K.Sink.written c.do_command.new.out) (fault_seen c.in-Err.fault) c.status.result c.status.ensures c.in-Err.ensures

@@ -1,0 +1,20 @@
+use Rattle.std.proofs.Common.{◌≡◌, ◌≤◌, ◌-◌, None}
+use Rattle.pipes_feed.specs.Ahead.{ahead}
+use Rattle.pipes_feed.specs.State.{fresh_reader}
+use Rattle.pipes_at.specs.Gathering.{HasTaken}
+use Rattle.pipes_at.proofs.source.gather.Given as goal
+
+abbrev pub invariant-items : goal.invariant-items
+invariant-items g l = record {
+  later : g.S.Source.faults l.initial.src ≤ g.S.Source.faults l.src;
+  name : g.S.Source.name l.src ≡ g.S.Source.name l.initial.src;
+  found_at : g.S.Source.found_at l.src ≡ g.S.Source.found_at l.initial.src;
+  going : l.reader.ended ≡ None;
+  kinds : l.reader.kinds ≡ l.source.schema;
+  window : l.rows.kind ≡ l.source.window;
+  instant : l.rows.time ≡ l.time;
+  taken : HasTaken l.source.schema (ahead (fresh_reader l.source.schema) (g.S.Source.left l.initial.src)) (ahead l.reader (g.S.Source.left l.src)) l.rows;
+}
+
+abbrev pub decreases-items : goal.decreases-items
+decreases-items g l = 4000000 - l.reader.behind.items

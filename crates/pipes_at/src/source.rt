@@ -1,0 +1,178 @@
+// The rows of one source that are valid at an instant.
+ghost use Rattle.std.specs.Prelude.{◌≡◌, ◌≤◌, List, ℕ, Some, IfOk, IfErr, IsErrOf, OnOk};
+ghost use Rattle.std.specs.List.{All};
+ghost use Rattle.pipes_edge.specs.Causes.{Rose};
+ghost use Rattle.pipes_edge.specs.Outside.{Names, NoneFalls};
+ghost use Rattle.pipes_tuple.specs.Kinds.{Fits};
+ghost use Rattle.pipes_window.specs.Valid.{Gathers};
+ghost use Rattle.pipes_window.specs.Windows.{in_window};
+ghost use Rattle.pipes_feed.specs.Items.{items_of};
+ghost use Rattle.pipes_fault.specs.Fault.{fault_seen};
+ghost use Rattle.pipes_at.specs.Gives.{Gives, HasCauseIn, IsOfReading, fault_of, refused_by};
+ghost use Rattle.pipes_at.specs.Whole.{source_items, up_to_end};
+ghost use Rattle.pipes_at.specs.declared.source.SourceFault.TheVariants as faults;
+
+use pipes_edge::{Files, FindFault, Source};
+use pipes_fault::{Fault, FileName};
+use pipes_feed::{ItemReader, Next, Reason, RowWhy};
+use pipes_query::SourceDecl;
+use pipes_time::Memory;
+use pipes_tuple::{Text, Tuple};
+use pipes_window::{Item, RowsAt};
+use std::alloc::Global;
+
+/// Why a source wasn't read to its end.
+#[derive(Clone, Copy, Debug, PartialEq, Eq)]
+pub(crate) enum SourceFault {
+    /// There is no such file.
+    Missing,
+    /// A search or a read failed.
+    Failed,
+    /// A line is refused.
+    Row {
+        /// The line, counted from 1.
+        line: u64,
+        /// Why.
+        why: RowWhy,
+    },
+    /// A line is past a limit.
+    Limit {
+        /// The line, counted from 1.
+        line: u64,
+    },
+    /// Want of memory.
+    Memory,
+}
+
+impl From<Memory> for SourceFault {
+    ghost from_gives = { λ _ e. e ≡ faults.Memory };
+
+    fn from(_: Memory) -> SourceFault {
+        SourceFault::Memory
+    }
+}
+
+impl SourceFault {
+    /// The fault of the source with this name and this file.
+    fn of(self, name: Text, file: Text) -> Fault<'static>
+        ensures { fault_seen result ≡ fault_of name file self }
+    {
+        match self {
+            SourceFault::Missing => Fault::Missing(FileName::OfSource(file)),
+            SourceFault::Failed => Fault::ReadFile(FileName::OfSource(file)),
+            SourceFault::Row { line, why } => Fault::Row {
+                source: name,
+                line,
+                why,
+            },
+            SourceFault::Limit { line } => Fault::Limit { source: name, line },
+            SourceFault::Memory => Fault::Memory,
+        }
+    }
+}
+
+/// The rows of the source that are valid at the instant, in its order.
+pub(crate) fn rows_of<F: Files>(
+    alloc: Global,
+    files: &mut F,
+    source: &SourceDecl,
+    time: u64,
+) -> Result<Vec<Tuple>, Fault<'static>>
+    ensures told { F.told files.new ≡ F.told files.old }
+    ensures later { NoneFalls (F.faults files.old) (F.faults files.new) }
+    ensures cause { IfErr result (λ e. HasCauseIn (F.faults files.old) (F.faults files.new) (fault_seen e)) }
+    ensures served { IfErr result (λ e. IsOfReading (fault_seen e)) }
+    ensures fit { IfOk result (λ rows. All (λ row. Fits row source.now.schema) rows.items) }
+    ensures gives { (named : Names) → F.told files.old ≡ Some named
+        → Gives (λ rows items. rows.items ≡ in_window source.now.window items time) fault_seen result (source_items named source.now) }
+{
+    // A fault names its source and file, and its line may take no memory: they are copied before anything is read.
+    let Ok(name) = source.name.copy() else {
+        return Err(Fault::Memory);
+    };
+    let Ok(file) = source.file.copy() else {
+        return Err(Fault::Memory);
+    };
+    match read_source(alloc, files, source, time) {
+        Ok(rows) => Ok(rows),
+        Err(fault) => Err(fault.of(name, file)),
+    }
+}
+
+// Finds the source, gathers its rows, and gives it back.
+fn read_source<F: Files>(
+    alloc: Global,
+    files: &mut F,
+    source: &SourceDecl,
+    time: u64,
+) -> Result<Vec<Tuple>, SourceFault>
+    ensures told { F.told files.new ≡ F.told files.old }
+    ensures later { NoneFalls (F.faults files.old) (F.faults files.new) }
+    ensures cause { IsErrOf result SourceFault.Failed → Rose (F.faults files.old source.now.file) (F.faults files.new source.now.file) }
+    ensures fit { IfOk result (λ rows. All (λ row. Fits row source.now.schema) rows.items) }
+    ensures gives { (named : Names) → F.told files.old ≡ Some named
+        → Gives (λ rows items. rows.items ≡ in_window source.now.window items time) (fault_of source.now.name source.now.file) result (source_items named source.now) }
+{
+    let mut src = match files.find_src(source.file.as_str()) {
+        Ok(src) => src,
+        Err(FindFault::Missing) => return Err(SourceFault::Missing),
+        Err(FindFault::Failed) => return Err(SourceFault::Failed),
+        Err(FindFault::Memory) => return Err(SourceFault::Memory),
+    };
+    let rows = gather(alloc, &mut src, source, time);
+    files.retire(src);
+    rows
+}
+
+// Reads the source to its end, and keeps the rows that are valid.
+fn gather<S: Source>(
+    alloc: Global,
+    src: &mut S,
+    source: &SourceDecl,
+    time: u64,
+) -> Result<Vec<Tuple>, SourceFault>
+    ensures later { S.faults src.old ≤ S.faults src.new }
+    ensures cause { IsErrOf result SourceFault.Failed → Rose (S.faults src.old) (S.faults src.new) }
+    ensures name { S.name src.new ≡ S.name src.old }
+    ensures found_at { S.found_at src.new ≡ S.found_at src.old }
+    ensures fit { IfOk result (λ rows. All (λ row. Fits row source.now.schema) rows.items) }
+    ensures gives { (bytes : List ℕ) → S.left src.old ≡ Some bytes
+        → Gives (λ rows items. rows.items ≡ in_window source.now.window items time) (fault_of source.now.name source.now.file) result
+        (up_to_end source.now (items_of source.now.schema bytes)) }
+{
+    let mut reader = ItemReader::new(alloc, source)?;
+    let mut rows = RowsAt::new(alloc, source.window, time);
+    'items: loop {
+        match reader.next(src) {
+            Next::Item(item) => take(&mut rows, item)?,
+            Next::Ended(reason) => {
+                if let Some(fault) = refusal(reason) {
+                    return Err(fault);
+                }
+                return Ok(rows.into_rows());
+            }
+        }
+    }
+}
+
+fn take(rows: &mut RowsAt, item: Item) -> Result<(), Memory>
+    ensures { OnOk result (Gathers rows.old rows.new item) }
+{
+    match item {
+        Item::Row(stamp, tuple) => rows.take(stamp, tuple),
+        Item::Beat(_) => Ok(()),
+    }
+}
+
+// Why a source whose items end so wasn't read to its end.
+fn refusal(reason: Reason) -> Option<SourceFault>
+    ensures { result ≡ refused_by reason }
+{
+    match reason {
+        Reason::AtEnd => None,
+        Reason::Row { line, why } => Some(SourceFault::Row { line, why }),
+        Reason::Failed => Some(SourceFault::Failed),
+        Reason::Limit { line } => Some(SourceFault::Limit { line }),
+        Reason::Memory => Some(SourceFault::Memory),
+    }
+}

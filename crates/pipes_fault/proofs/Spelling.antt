@@ -1,0 +1,70 @@
+-- Names that are spelled out.
+use Rattle.std.proofs.Common.{◌≡◌, ℕ, suc, ◌+◌, List, [], ◌∷◌, ◌++◌, take, drop, Option, Some, None, Bool, true, false, cond, get_or, refl, sym, ◌∙◌, ap, subst, arith, append_assoc, ◌||◌, ◌==◌}
+use Rattle.std.specs.Io.KnownBytes.{Appends}
+use Rattle.std.proofs.KnownBytes.{Appends-trans}
+use Rattle.std.specs.List.{position_from}
+use Rattle.pipes_fault.specs.Pieces.{is_escaped}
+use Rattle.pipes_tuple.specs.Texts.{escaped_byte, escaped}
+use Rattle.pipes_buffer.specs.Pieces.{AppendsFront}
+use Rattle.pipes_buffer.proofs.Appended.{front_as, front_in, front_after}
+
+-- a byte that stands for itself
+plain : (b : ℕ) → is_escaped b ≡ false → escaped_byte b ≡ b ∷ []
+plain b h = go (b == 92) (b == 34) (b == 10) (b == 13) h
+  where
+    go : (p q r s : Bool) → (p || q || r || s) ≡ false → cond p (92 ∷ 92 ∷ []) (cond q (92 ∷ 34 ∷ []) (cond r (92 ∷ 110 ∷ []) (cond s (92 ∷ 114 ∷ []) (b ∷ [])))) ≡ b ∷ []
+    go false false false false h = refl
+    go false false false true h = cc
+    go false false true s h = cc
+    go false true r s h = cc
+    go true q r s h = cc
+
+-- without a byte to escape, a name is spelled as it is
+pub spelled_plain : (bs : List ℕ) (k : ℕ) → None ≡ position_from is_escaped k bs → escaped bs ≡ bs
+spelled_plain [] k h = refl
+spelled_plain (b ∷ bs) k h = go (is_escaped b) refl (λ e. spelled_plain bs (k + 1) e) h
+  where
+    go : (t : Bool) → is_escaped b ≡ t → (None ≡ position_from is_escaped (k + 1) bs → escaped bs ≡ bs) → None ≡ cond t (Some k) (position_from is_escaped (k + 1) bs) → escaped_byte b ++ escaped bs ≡ b ∷ bs
+    go true is next h = cc
+    go false is next h = rw (plain b is) (ap (λ (l : List ℕ). b ∷ l) (next h))
+
+abbrev IsEscapedAt : List ℕ → ℕ → ℕ → Type 0
+IsEscapedAt bs k i = (j : ℕ) × (i ≡ k + j) × (is_escaped (get_or bs j 0) ≡ true) × (escaped bs ≡ take j bs ++ (escaped_byte (get_or bs j 0) ++ escaped (drop (j + 1) bs)))
+
+escaped_at : (bs : List ℕ) (k i : ℕ) → Some i ≡ position_from is_escaped k bs → IsEscapedAt bs k i
+escaped_at [] k i h = cc
+escaped_at (b ∷ bs) k i h = go (is_escaped b) refl (λ e. escaped_at bs (k + 1) i e) h
+  where
+    go : (t : Bool) → is_escaped b ≡ t → (Some i ≡ position_from is_escaped (k + 1) bs → IsEscapedAt bs (k + 1) i) → Some i ≡ cond t (Some k) (position_from is_escaped (k + 1) bs) → IsEscapedAt (b ∷ bs) k i
+    go true is next h = let e : i ≡ k = cc in (0, omega arith, is, refl)
+    go false is next h =
+        let r = next h in
+        let e : suc (r.0 + 1) ≡ suc r.0 + 1 = omega arith in
+        (suc r.0, omega (arith, r.1), r.2, rw (plain b is) (ap (λ (l : List ℕ). b ∷ l) r.3) ∙ ap (λ (n : ℕ). b ∷ (take r.0 bs ++ (escaped_byte (get_or bs r.0 0) ++ escaped (drop n (b ∷ bs))))) e)
+
+-- the name up to the first byte to escape, that byte spelled out, and the rest
+pub spelled_around : (bs : List ℕ) (i : ℕ) → Some i ≡ position_from is_escaped 0 bs → (is_escaped (get_or bs i 0) ≡ true) × (escaped bs ≡ take i bs ++ escaped_byte (get_or bs i 0) ++ escaped (drop (i + 1) bs))
+spelled_around bs i h =
+    let r = escaped_at bs 0 i h in
+    let e : r.0 ≡ i = omega (arith, r.1) in
+    (ap (λ (n : ℕ). is_escaped (get_or bs n 0)) (sym e) ∙ r.2, r.3 ∙ ap (λ (n : ℕ). take n bs ++ (escaped_byte (get_or bs n 0) ++ escaped (drop (n + 1) bs))) e ∙ sym (append_assoc (take i bs) (escaped_byte (get_or bs i 0)) (escaped (drop (i + 1) bs))))
+
+-- a name that is written part by part
+abbrev pub IsSaid : Option (List ℕ) → Option (List ℕ) → List ℕ → List ℕ → Type 0
+IsSaid before now name rest = (done : List ℕ) × Appends before now done × (escaped name ≡ done ++ escaped rest)
+
+split_said : (done first second rest name others : List ℕ) → escaped name ≡ done ++ escaped rest → escaped rest ≡ first ++ second ++ escaped others → escaped name ≡ (done ++ (first ++ second)) ++ escaped others
+split_said done first second rest name others e f = e ∙ ap (λ (l : List ℕ). done ++ l) f ∙ sym (append_assoc done (first ++ second) (escaped others))
+
+pub said-more : (before mid now : Option (List ℕ)) (name rest others first second : List ℕ) → IsSaid before mid name rest → escaped rest ≡ first ++ second ++ escaped others → Appends mid now (first ++ second) → IsSaid before now name others
+said-more before mid now name rest others first second said split more = (said.0 ++ (first ++ second), Appends-trans before mid now said.0 (first ++ second) said.1 more, split_said said.0 first second rest name others said.2 split)
+
+pub said-front : (before mid now : Option (List ℕ)) (name rest others first second : List ℕ) → IsSaid before mid name rest → escaped rest ≡ first ++ second ++ escaped others → AppendsFront mid now (first ++ second) → AppendsFront before now (escaped name)
+said-front before mid now name rest others first second said split more =
+    front_as before now _ (escaped name) (sym (split_said said.0 first second rest name others said.2 split)) (front_in before now (said.0 ++ (first ++ second)) (escaped others) (front_after before mid now said.0 (first ++ second) said.1 more))
+
+pub said-end : (before mid now : Option (List ℕ)) (name rest : List ℕ) → IsSaid before mid name rest → escaped rest ≡ rest → Appends mid now rest → Appends before now (escaped name)
+said-end before mid now name rest said plain more = subst (λ (l : List ℕ). Appends before now l) (sym (said.2 ∙ ap (λ (l : List ℕ). said.0 ++ l) plain)) (Appends-trans before mid now said.0 rest said.1 more)
+
+pub said-end-front : (before mid now : Option (List ℕ)) (name rest : List ℕ) → IsSaid before mid name rest → escaped rest ≡ rest → AppendsFront mid now rest → AppendsFront before now (escaped name)
+said-end-front before mid now name rest said plain more = front_as before now (said.0 ++ rest) (escaped name) (sym (said.2 ∙ ap (λ (l : List ℕ). said.0 ++ l) plain)) (front_after before mid now said.0 rest said.1 more)

@@ -1,0 +1,30 @@
+-- Nothing was written of a job.
+use Rattle.std.proofs.Common.{List, [], ◌∷◌, Some, refl, inl}
+use Rattle.pipes_window.specs.declared.item.Item.{Item}
+use Rattle.pipes_feed.specs.Items.{Items}
+use Rattle.pipes_fault.specs.Fault.{Fault, Words, QueryText, QueryType, Unbuilt, Missing, ReadFile, ReadSource, Row, Limit, Write, Memory}
+use Rattle.pipes_run.proofs.Fronts.{front_nothing}
+use Rattle.pipes_run.specs.Asked.{Job, RunOver, AnswerAt, PrintOf}
+use Rattle.pipes_run.specs.Outcome.{AreFronts, Does}
+use Rattle.pipes_run.specs.Seen.{IsFree}
+
+nothing_taken : (items : List Items) → (taken : List (List Item)) × AreFronts items taken
+nothing_taken [] = ([], tt)
+nothing_taken (i ∷ is) = let rest = nothing_taken is in ([] ∷ rest.0, ((0, refl), rest.1))
+
+pub does_nothing : (job : Job) (fault : Fault) → IsFree fault → Does job (Some fault) []
+does_nothing (RunOver form query items) Memory h = let t = nothing_taken items in (t.0, t.1, front_nothing form query t.0)
+does_nothing (AnswerAt query items t) Memory h = inl refl
+does_nothing (PrintOf query) Memory h = (0, refl)
+does_nothing (RunOver form query items) (ReadFile name) h = refl
+does_nothing (AnswerAt query items t) (ReadFile name) h = refl
+does_nothing (PrintOf query) (ReadFile name) h = refl
+does_nothing job Words h = absurd h
+does_nothing job (QueryText r) h = absurd h
+does_nothing job (QueryType r) h = absurd h
+does_nothing job Unbuilt h = absurd h
+does_nothing job (Missing name) h = absurd h
+does_nothing job (ReadSource name) h = absurd h
+does_nothing job (Row source line why) h = absurd h
+does_nothing job (Limit source line) h = absurd h
+does_nothing job Write h = absurd h

@@ -1,0 +1,86 @@
+-- What the words of a call and the files ask for.
+use Rattle.std.specs.Prelude.{◌≡◌, ℕ, List, [], ◌∷◌, length, ◌==◌, if◌then◌else◌, Option, Some, None, Result, Ok, Err}
+use Rattle.std.specs.Option.{ok_or}
+use Rattle.pipes_edge.specs.Outside.{Names}
+use Rattle.pipes_plan.specs.Refusals.{Checks, refusals, first_of}
+use Rattle.pipes_window.specs.declared.item.Item.{Item}
+use Rattle.pipes_output.specs.declared.form.Form.{Form}
+use Rattle.pipes_words.specs.Command.{Command, Run, At, Check}
+use Rattle.pipes_feed.specs.Items.{Items, items_of}
+use Rattle.pipes_query.specs.declared.query.Query.{Query}
+use Rattle.pipes_query.specs.declared.query.SourceDecl.{SourceDecl}
+use Rattle.pipes_query.specs.Texts.{IsFile}
+use Rattle.pipes_query.specs.Places.{IsRefused}
+use Rattle.pipes_meaning.specs.Answer.{schemas_of}
+use Rattle.pipes_fault.specs.Fault.{Fault, Words, QueryText, QueryType, Unbuilt, Missing, ReadFile, ReadSource, Row, Limit, Write, Memory}
+use Rattle.pipes_single.specs.Served.{is_served}
+use Rattle.pipes_at.specs.Whole.{◌>>=◌, whole_items}
+
+-- What there is to do: a run in a form over the items of its sources; the answer at an instant over all items; or the print of a query that checks.
+pub data Job : Type 0 where
+  RunOver : Form → Query → List Items → Job
+  AnswerAt : Query → List (List Item) → ℕ → Job
+  PrintOf : Query → Job
+
+-- The query that the bytes write and that checks, or why there is none: the text is refused, or the first node of its plan that is.
+abbrev pub Writes : List ℕ → Result Query Fault → Type 0
+Writes bytes (Ok query) = IsFile query bytes × Checks (schemas_of query) query.plan
+Writes bytes (Err (QueryText refusal)) = IsRefused bytes refusal
+Writes bytes (Err (QueryType refusal)) = (query : Query) × IsFile query bytes × (first_of (refusals (schemas_of query) query.plan) ≡ Some refusal)
+Writes bytes (Err Words) = ⊥
+Writes bytes (Err Unbuilt) = ⊥
+Writes bytes (Err (Missing name)) = ⊥
+Writes bytes (Err (ReadFile name)) = ⊥
+Writes bytes (Err (ReadSource name)) = ⊥
+Writes bytes (Err (Row source line why)) = ⊥
+Writes bytes (Err (Limit source line)) = ⊥
+Writes bytes (Err Write) = ⊥
+Writes bytes (Err Memory) = ⊥
+
+-- the same of the file with this name
+abbrev pub Holds : List ℕ → Option (List ℕ) → Result Query Fault → Type 0
+Holds name None query = query ≡ Err (Missing name)
+Holds name (Some bytes) query = Writes bytes query
+
+-- an empty script, of the file with the name
+abbrev pub no_commands : Names → List ℕ → Result (Unit {0}) Fault
+no_commands files name = ok_or (files name) (Missing name) >>= λ bytes. if length bytes == 0 then Ok tt else Err Unbuilt
+
+-- a plan that is served
+abbrev pub served : Query → Result (Unit {0}) Fault
+served query = if is_served query then Ok tt else Err Unbuilt
+
+-- the items of each source, and how they end
+abbrev pub items_in : Names → List SourceDecl → Result (List Items) Fault
+items_in files [] = Ok []
+items_in files (s ∷ ss) = do
+  bytes ← ok_or (files s.file) (Missing s.file)
+  others ← items_in files ss
+  Ok (items_of s.schema bytes ∷ others)
+
+-- the name of the query's file
+abbrev pub query_name : Command → List ℕ
+query_name (Run query script form) = query
+query_name (At query time) = query
+query_name (Check query) = query
+
+-- what there is to do once the query is read, or the first fault that the files decide
+abbrev pub job_of : Command → Names → Query → Result Job Fault
+job_of (Run name script form) files query = do
+  one ← served query
+  nothing ← no_commands files script
+  items ← items_in files query.sources
+  Ok (RunOver form query items)
+job_of (At name time) files query = do
+  items ← whole_items files query.sources
+  Ok (AnswerAt query items time)
+job_of (Check name) files query = Ok (PrintOf query)
+
+-- what a command asks for: the query comes first
+abbrev pub Asks : Command → Names → Result Job Fault → Type 0
+Asks command files job = (query : Result Query Fault) × Holds (query_name command) (files (query_name command)) query × (job ≡ (query >>= job_of command files))
+
+-- what the words ask for
+abbrev pub AsksWords : Option Command → Names → Result Job Fault → Type 0
+AsksWords None files job = job ≡ Err Words
+AsksWords (Some command) files job = Asks command files job

@@ -1,0 +1,12 @@
+pub mod Keeping
+pub mod Chains
+pub mod Chained
+pub mod Transfer
+pub mod Entries
+pub mod Fronts
+pub mod Tuples
+pub mod Rightness
+pub mod Texts
+pub mod Running
+pub mod Going
+pub mod Outcomes
