@@ -1,6 +1,7 @@
 // Texts that are read and printed again.
 use crate::{print_expr, print_exprs, print_plan};
 use pipes_grammar::{read_expr, read_exprs, read_plan};
+use pipes_plan::Plan;
 use pipes_token::tokens;
 use pipes_tuple::Text;
 use std::test::Fail;
@@ -14,7 +15,20 @@ fn prints(rt: &HostRuntime, text: &str, wanted: &str) -> Result<bool, Fail> {
     Ok(out.as_slice() == wanted.as_bytes())
 }
 
-// Whether the plan that the text is over the sources `a` and `b_1` prints as this.
+// Whether a copy of the plan equals it, and another plan doesn't.
+fn is_copied(rt: &HostRuntime, plan: &Plan) -> Result<bool, Fail> {
+    let copy = plan.copy(rt.alloc())?;
+    Ok(copy == *plan && copy != Plan::Source(2))
+}
+
+// Whether the plan prints as this, and is copied.
+fn is_printed(rt: &HostRuntime, names: &[Text], plan: &Plan, wanted: &str) -> Result<bool, Fail> {
+    let mut out = Vec::new(rt.alloc());
+    print_plan(names, plan, &mut out)?;
+    Ok(out.as_slice() == wanted.as_bytes() && is_copied(rt, plan)?)
+}
+
+// The same of the plan that the text is over the sources `a` and `b_1`.
 fn prints_plan(rt: &HostRuntime, text: &str, wanted: &str) -> Result<bool, Fail> {
     let mut names = Vec::new(rt.alloc());
     names.push(Text::new(rt.alloc(), "a")?)?;
@@ -23,9 +37,7 @@ fn prints_plan(rt: &HostRuntime, text: &str, wanted: &str) -> Result<bool, Fail>
     let (plan, _) = read_plan(rt.alloc(), names.as_slice(), made.as_slice()).map_err(
         |_| "refused",
     )?;
-    let mut out = Vec::new(rt.alloc());
-    print_plan(names.as_slice(), &plan, &mut out)?;
-    Ok(out.as_slice() == wanted.as_bytes())
+    is_printed(rt, names.as_slice(), &plan, wanted)
 }
 
 #[test]
@@ -52,7 +64,7 @@ fn expressions(rt: HostRuntime) -> Result<(), Fail> {
 }
 
 #[test]
-fn plans(rt: HostRuntime) -> Result<(), Fail> {
+fn plans_printed_and_copied(rt: HostRuntime) -> Result<(), Fail> {
     let rows = [
         ("b_1 # a source", "b_1"),
         ("filter(true,a)", "filter(true, a)"),
@@ -68,6 +80,18 @@ fn plans(rt: HostRuntime) -> Result<(), Fail> {
             "group([0, 3], [count, sum 1, min 2, max 3, avg 4], a)",
         ),
         ("minus(a,minus(b_1,a))", "minus(a, minus(b_1, a))"),
+        (
+            "group([0],[sum 0],minus(a,b_1))",
+            "group([0], [sum 0], minus(a, b_1))",
+        ),
+        (
+            "map([$0,\"a\"],distinct(union(a,b_1)))",
+            "map([$0, \"a\"], distinct(union(a, b_1)))",
+        ),
+        (
+            "filter((0<$0),filter(($0<100),b_1))",
+            "filter((0 < $0), filter(($0 < 100), b_1))",
+        ),
     ];
     for (text, wanted) in rows {
         assert!(rt; prints_plan(&rt, text, wanted)?, "{text}");
