@@ -1,24 +1,40 @@
-//! The program `pipes`: hands the words of the command line, the system's files and the standard streams to the run.
+//! The program `pipes`: hands the words of the command line, the system's files and the standard
+//! streams to the run.
 #![tactic(auto)]
 
 use pipes_edge::{HostFiles, HostSink, NoGate};
+use pipes_fault::{Fault, say, status};
 use pipes_run::pipes;
-use std::alloc::AllocError;
+use pipes_time::Memory;
 use std::env;
+use std::io::ErrorKind;
 use std::process::ExitCode;
 
-fn main(rt: HostRuntime) -> Result<ExitCode, AllocError> {
-    let mut out = HostSink::out(rt.stdout());
-    let mut err = HostSink::err(rt.stderr());
-    let mut files = HostFiles::new(&rt);
+// The words after the program's name. Words that are no text are wrong ones, as no words are.
+fn words_of(rt: &HostRuntime) -> Result<Vec<String>, Memory> {
     let mut words = Vec::new(rt.alloc());
-    // Words that are no text are wrong ones, as no words are.
-    if let Ok(args) = env::args(&rt) {
-        for word in args.skip(1) {
-            words.push(word)?;
+    match env::args(rt) {
+        Ok(args) => {
+            for word in args.skip(1) {
+                words.push(word)?;
+            }
+            Ok(words)
         }
+        Err(error) if error.kind() == ErrorKind::OutOfMemory => Err(Memory),
+        Err(_) => Ok(words),
     }
-    let status = pipes(
+}
+
+fn main(rt: HostRuntime) -> ExitCode {
+    let mut err = HostSink::err(rt.stderr());
+    let Ok(words) = words_of(&rt) else {
+        let fault = Fault::Memory;
+        say(&mut err, &fault);
+        return ExitCode::from(status(&fault));
+    };
+    let mut out = HostSink::out(rt.stdout());
+    let mut files = HostFiles::new(&rt);
+    let ended = pipes(
         &rt,
         words.as_slice(),
         &mut files,
@@ -26,5 +42,5 @@ fn main(rt: HostRuntime) -> Result<ExitCode, AllocError> {
         &mut err,
         &NoGate,
     );
-    Ok(ExitCode::from(status))
+    ExitCode::from(ended)
 }

@@ -31,7 +31,7 @@ up_to_end s items = by_end s items.list items.end
 abbrev pub source_items : Names → SourceDecl → Result (List Item) Fault
 source_items files s = do
   bytes ← ok_or (files s.file) (Missing s.file)
-  up_to_end s (items_of s.schema bytes)
+  up_to_end s (items_of s.schema s.slack bytes)
 
 -- the items of each source, in order, or the first fault
 abbrev pub whole_items : Names → List SourceDecl → Result (List (List Item)) Fault

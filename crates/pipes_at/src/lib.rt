@@ -7,6 +7,3 @@ mod source;
 
 pub use answer::answer_at;
 pub use lines::write_tuples;
-
-#[cfg(test)]
-mod tests;

@@ -1,5 +1,5 @@
 // The rows of one source that are valid at an instant.
-ghost use Rattle.std.specs.Prelude.{◌≡◌, ◌≤◌, List, ℕ, Some, IfOk, IfErr, IsErrOf, OnOk};
+ghost use Rattle.std.specs.Prelude.{◌≡◌, ◌≤◌, List, [], ℕ, ⊤, Some, IfOk, IfErr, IsErrOf, OnOk};
 ghost use Rattle.std.specs.List.{All};
 ghost use Rattle.pipes_edge.specs.Causes.{Rose};
 ghost use Rattle.pipes_edge.specs.Outside.{Names, NoneFalls};
@@ -8,13 +8,14 @@ ghost use Rattle.pipes_window.specs.Valid.{Gathers};
 ghost use Rattle.pipes_window.specs.Windows.{in_window};
 ghost use Rattle.pipes_feed.specs.Items.{items_of};
 ghost use Rattle.pipes_fault.specs.Fault.{fault_seen};
+ghost use Rattle.pipes_at.specs.Gathering.{Releases};
 ghost use Rattle.pipes_at.specs.Gives.{Gives, HasCauseIn, IsOfReading, fault_of, refused_by};
 ghost use Rattle.pipes_at.specs.Whole.{source_items, up_to_end};
 ghost use Rattle.pipes_at.specs.declared.source.SourceFault.TheVariants as faults;
 
 use pipes_edge::{Files, FindFault, Source};
 use pipes_fault::{Fault, FileName};
-use pipes_feed::{ItemReader, Next, Reason, RowWhy};
+use pipes_feed::{ItemReader, Next, Reason, Reorder, RowWhy};
 use pipes_query::SourceDecl;
 use pipes_time::Memory;
 use pipes_tuple::{Text, Tuple};
@@ -138,21 +139,47 @@ fn gather<S: Source>(
     ensures fit { IfOk result (λ rows. All (λ row. Fits row source.now.schema) rows.items) }
     ensures gives { (bytes : List ℕ) → S.left src.old ≡ Some bytes
         → Gives (λ rows items. rows.items ≡ in_window source.now.window items time) (fault_of source.now.name source.now.file) result
-        (up_to_end source.now (items_of source.now.schema bytes)) }
+        (up_to_end source.now (items_of source.now.schema source.now.slack bytes)) }
 {
-    let mut reader = ItemReader::new(alloc, source)?;
+    let mut reader = ItemReader::new(alloc, &source.schema, source.slack)?;
+    let mut waiting = Reorder::new(alloc);
     let mut rows = RowsAt::new(alloc, source.window, time);
     'items: loop {
         match reader.next(src) {
-            Next::Item(item) => take(&mut rows, item)?,
+            Next::Item(item) => {
+                waiting.put(item)?;
+                release_due(&mut waiting, &mut rows, reader.floor())?;
+            }
             Next::Ended(reason) => {
                 if let Some(fault) = refusal(reason) {
                     return Err(fault);
                 }
+                release_rest(&mut waiting, &mut rows)?;
                 return Ok(rows.into_rows());
             }
         }
     }
+}
+
+// Takes the rows of the items that nothing comes before any more.
+fn release_due(waiting: &mut Reorder, rows: &mut RowsAt, floor: u64) -> Result<(), Memory>
+    ensures { OnOk result (Releases (λ stamp. stamp ≤ floor) waiting.old waiting.new rows.old rows.new) }
+{
+    'due: while let Some(item) = waiting.take_due(floor) {
+        take(rows, item)?;
+    }
+    Ok(())
+}
+
+// Takes the rows of all items that wait.
+fn release_rest(waiting: &mut Reorder, rows: &mut RowsAt) -> Result<(), Memory>
+    ensures rows { OnOk result (Releases (λ stamp. ⊤) waiting.old waiting.new rows.old rows.new) }
+    ensures all { OnOk result (waiting.new ≡ []) }
+{
+    'rest: while let Some(item) = waiting.take() {
+        take(rows, item)?;
+    }
+    Ok(())
 }
 
 fn take(rows: &mut RowsAt, item: Item) -> Result<(), Memory>

@@ -6,9 +6,9 @@ use Rattle.std.specs.Io.KnownBytes.{Appends}
 abbrev pub AppendsFront : Option (List ℕ) → Option (List ℕ) → List ℕ → Type 0
 AppendsFront before now bytes = (n : ℕ) × Appends before now (take n bytes)
 
--- all of the file's bytes, or more than the limit of a file that has more
+-- all of the file's bytes, or the first ones, more than the limit, of a file that has more
 abbrev pub ReadsUpTo : ℕ → List ℕ → List ℕ → Type 0
-ReadsUpTo limit file bytes = (bytes ≡ file) ⊎ ((limit < length bytes) × (limit < length file))
+ReadsUpTo limit file bytes = (bytes ≡ file) ⊎ ((limit < length bytes) × (limit < length file) × (bytes ≡ take (length bytes) file))
 
 -- a front of the text was passed on, and the rest is still kept
 abbrev pub PassesOn : Option (List ℕ) → Option (List ℕ) → List ℕ → List ℕ → Type 0

@@ -39,15 +39,16 @@ impl From<Memory> for IoFault {
     }
 }
 
-/// Appends the bytes.
+/// Appends the bytes. Without memory nothing is appended.
 pub fn append(to: &mut Vec<u8>, bytes: &[u8]) -> Result<(), Memory>
-    ensures { OnOk result (to.new.items ≡ to.old.items ++ bytes.now) }
+    ensures ok { OnOk result (to.new.items ≡ to.old.items ++ bytes.now) }
+    ensures err { OnErr result (to.new.items ≡ to.old.items) }
 {
     to.extend_from_slice(bytes)?;
     Ok(())
 }
 
-/// Reads the source to its end, or until it has given more bytes than the limit.
+/// Reads the source to its end, or until it has given more bytes than the limit: these are then the first of the file.
 pub fn read_up_to<S: Source>(
     alloc: Global,
     src: &mut S,
@@ -85,9 +86,10 @@ pub fn write_all<K: Sink>(out: &mut K, bytes: &[u8]) -> Result<(), Failed>
     Ok(())
 }
 
-/// Writes the text once it fills a buffer, and keeps it else.
+/// Writes the text once it fills a buffer, and keeps it else, so that less than a buffer is kept.
 pub fn write_if_full<K: Sink>(out: &mut K, text: &mut Vec<u8>) -> Result<(), Failed>
     ensures ok { OnOk result (PassesOn (K.written out.old) (K.written out.new) text.old.items text.new.items) }
+    ensures less { OnOk result (length text.new.items < BUFFER) }
     ensures front { OnErr result (AppendsFront (K.written out.old) (K.written out.new) text.old.items) }
     ensures cause { HasCause (K.faults out.old) (K.faults out.new) result }
 {
@@ -98,6 +100,3 @@ pub fn write_if_full<K: Sink>(out: &mut K, text: &mut Vec<u8>) -> Result<(), Fai
     text.clear();
     Ok(())
 }
-
-#[cfg(test)]
-mod tests;

@@ -157,33 +157,3 @@ impl<R: rt::Files<File = File> + AllocGlobal + Drop> Files for HostFiles<R> {
         }
     }
 }
-
-#[cfg(test)]
-mod tests {
-    use super::*;
-    use crate::tests::{found, reads};
-    use std::test::Fail;
-
-    #[test]
-    fn reads_of_files_of_the_system(rt: HostRuntime) -> Result<(), Fail> {
-        let alloc = rt.alloc();
-        fs::write(&rt, "a", "abcdefg")?;
-        let mut files = HostFiles::new(rt.clone()?);
-        for (size, want) in [(3, "abc|def|g|"), (4096, "abcdefg|")] {
-            let gave = found(alloc, &mut files, "a", size)?;
-            assert_eq!(rt; gave.as_slice(), want.as_bytes());
-        }
-        assert_eq!(rt; files.find_src("b").err(), Some(FindFault::Missing));
-        assert_eq!(rt; files.find_src("a/b").err(), Some(FindFault::Failed));
-
-        // A folder is found, and its reads fail.
-        let mut folder = files.find_src(".")?;
-        assert_eq!(rt; folder.read([0].as_mut_slice()), Err(Failed));
-        files.retire(folder);
-        for (name, faults) in [("a", 0), ("b", 0), ("a/b", 1), (".", 1)] {
-            assert_eq!(rt; files.counts.get(name).copied(), Some(faults));
-        }
-        assert_eq!(rt; files.failed_searches, 1);
-        Ok(())
-    }
-}

@@ -14,8 +14,6 @@ mod mem_files;
 mod mem_sink;
 mod mem_source;
 mod sure_files;
-#[cfg(test)]
-mod tests;
 mod unread;
 
 pub use host_files::{HostFiles, HostSource};

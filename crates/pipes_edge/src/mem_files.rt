@@ -120,28 +120,3 @@ impl Files for MemFiles {
         }
     }
 }
-
-#[cfg(test)]
-mod tests {
-    use super::*;
-    use crate::tests::found;
-    use std::test::Fail;
-
-    #[test]
-    fn faults_are_counted_by_name(rt: HostRuntime) -> Result<(), Fail> {
-        let alloc = rt.alloc();
-        let mut files = MemFiles::new(alloc);
-        files.add("a", b"abc")?;
-        files.add("b", b"abc")?;
-        files.fail_at("a", 1)?;
-        files.fail_at("a", 2)?;
-        assert_eq!(rt; files.counts.get("a").copied(), None);
-        for faults in 1..4 {
-            let _ = found(alloc, &mut files, "a", 3)?;
-            let _ = found(alloc, &mut files, "b", 3)?;
-            assert_eq!(rt; files.counts.get("a").copied(), Some(faults));
-            assert_eq!(rt; files.counts.get("b").copied(), Some(0));
-        }
-        Ok(())
-    }
-}

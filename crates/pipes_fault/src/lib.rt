@@ -240,6 +240,3 @@ fn value_why(why: ValueRefusal) -> &'static [u8]
         ValueRefusal::Memory => b"",
     }
 }
-
-#[cfg(test)]
-mod tests;

@@ -10,7 +10,7 @@ use Rattle.pipes_feed.specs.declared.reason.RowWhy.{RowWhy}
 use Rattle.pipes_feed.specs.declared.reason.RowWhy.TheVariants as why
 use Rattle.pipes_feed.specs.declared.judge.Fault.{Fault}
 use Rattle.pipes_feed.specs.declared.judge.Fault.TheVariants as fault
-use Rattle.pipes_feed.specs.Answers.{Answers}
+use Rattle.pipes_feed.specs.AnswersJudged.{AnswersJudged}
 use Rattle.pipes_feed.specs.Judged.{◌>>=◌, value_of, values_of}
 
 -- what is known of the values of all columns, with those before this one read
@@ -60,8 +60,8 @@ one_refused done column kinds fields field refusal all within at reads h =
 -- the first field of which no value is read
 pub one_fails : {A : Type 0} (shown : A → List Value) (done : List Value) (column : ℕ) (kinds : List Kind) (fields : List (List ℕ)) (field : List ℕ) (fault : Fault) (all : Result (List Value) RowWhy)
     → column < length kinds → slice_get fields (column + 1) ≡ Some field
-    → Answers (λ (value : Value). value) (Err fault) (value_of column (reading (get_or kinds column kind.Int) field))
-    → SoFar done column kinds (drop 1 fields) all → Answers shown (Err fault) all
+    → AnswersJudged (λ (value : Value). value) (Err fault) (value_of column (reading (get_or kinds column kind.Int) field))
+    → SoFar done column kinds (drop 1 fields) all → AnswersJudged shown (Err fault) all
 one_fails shown done column kinds fields field (fault.Refused refusal) all within at reads h = one_refused done column kinds fields field refusal all within at reads h
 one_fails shown done column kinds fields field fault.Memory all within at reads h = tt
 

@@ -22,10 +22,10 @@ use Rattle.pipes_feed.specs.declared.reason.RowWhy.{RowWhy}
 use Rattle.pipes_feed.specs.declared.reason.RowWhy.TheVariants as why
 use Rattle.pipes_feed.specs.declared.line.Verdict.{Verdict}
 use Rattle.pipes_feed.specs.declared.line.Verdict.TheVariants.{Pass, Give, Refuse, Limit}
-use Rattle.pipes_feed.specs.Ahead.{ItemFits, Passes, Follows}
-use Rattle.pipes_feed.specs.Behind.{Behind, most_bytes, most_items, past_line, past_item}
+use Rattle.pipes_feed.specs.Ahead.{ItemFits, PassesLine, ArrivalFollows}
+use Rattle.pipes_feed.specs.Reached.{Reached, floor, most_bytes, most_items, after_line, after_item}
 use Rattle.pipes_feed.specs.Items.{stamp_in}
-use Rattle.pipes_feed.specs.Judged.{◌>>=◌, columns_of, stamp_of, in_order, value_of, values_of, item_with, item_of, verdict_of, judge_header, judge_later, judge_content, judge}
+use Rattle.pipes_feed.specs.Judged.{◌>>=◌, columns_of, stamp_of, at_floor, value_of, values_of, item_with, item_of, verdict_of, judge_header, judge_later, judge_content, judge}
 
 bound : {A B : Type 0} (P : A → Type 0) (Q : B → Type 0) (r : Result A RowWhy) (f : A → Result B RowWhy) → IfOk r P → ((x : A) → P x → IfOk (f x) Q) → IfOk (r >>= f) Q
 bound P Q (Ok x) f h k = k x h
@@ -44,9 +44,9 @@ number_kind_by false fits n = tt
 number_kind : (minus : Bool) (digits : List ℕ) → HasKind kind.Int (number_reading minus digits)
 number_kind minus digits = number_kind_by (is_numeral digits) (is_i64 (signed_number minus digits)) (signed_number minus digits)
 
-int_kind_by : (minus : Bool) (behind all : List ℕ) → HasKind kind.Int (cond minus (number_reading true behind) (number_reading false all))
-int_kind_by true behind all = number_kind true behind
-int_kind_by false behind all = number_kind false all
+int_kind_by : (minus : Bool) (reached all : List ℕ) → HasKind kind.Int (cond minus (number_reading true reached) (number_reading false all))
+int_kind_by true reached all = number_kind true reached
+int_kind_by false reached all = number_kind false all
 
 text_kind_by : (long utf8 : Bool) (bytes : List ℕ) → HasKind kind.Text (cond long (Err TooLong) (cond utf8 (Ok (Text bytes)) (Err NotUtf8)))
 unfolding HasKind
@@ -80,7 +80,7 @@ values_fit column (k ∷ kinds) (field ∷ fields) =
 
 -- an item that may follow
 pub record Allowed (kinds : List Kind) (last : ℕ) (item : Item) : Type 0 where
-  pub in_order : last ≤ stamp_in item
+  pub at_floor : last ≤ stamp_in item
   pub in_range : stamp_in item < horizon
   pub fits : ItemFits kinds item
 
@@ -105,14 +105,14 @@ unfolding InRange InOrder
 order_by last stamp true e h = tt
 order_by last stamp false e h = (ltb-false stamp last e, h)
 
-stamp_in_order : (last stamp : ℕ) → InRange stamp → IfOk (in_order last stamp) (InOrder last)
+stamp_in_order : (last stamp : ℕ) → InRange stamp → IfOk (at_floor last stamp) (InOrder last)
 stamp_in_order last stamp h = order_by last stamp (nat_lt stamp last) refl h
 
 with_by : (kinds : List Kind) (last stamp : ℕ) (none : Bool) (r : Result (List Value) RowWhy) → InOrder last stamp → IfOk r (λ values. map kind_of values ≡ kinds)
     → IfOk (cond none (Ok (Beat stamp)) (r >>= λ tuple. Ok (Row stamp tuple))) (Allowed kinds last)
 unfolding InOrder
-with_by kinds last stamp true r h fits = record { in_order = h.0; in_range = h.1; fits = tt }
-with_by kinds last stamp false (Ok values) h fits = record { in_order = h.0; in_range = h.1; fits = fits }
+with_by kinds last stamp true r h fits = record { at_floor = h.0; in_range = h.1; fits = tt }
+with_by kinds last stamp false (Ok values) h fits = record { at_floor = h.0; in_range = h.1; fits = fits }
 with_by kinds last stamp false (Err refusal) h fits = tt
 
 with_allowed : (kinds : List Kind) (last stamp : ℕ) (fields : List (List ℕ)) → InOrder last stamp → IfOk (item_with kinds stamp fields) (Allowed kinds last)
@@ -126,81 +126,83 @@ item_allowed : (kinds : List Kind) (last : ℕ) (fields : List (List ℕ)) → I
 item_allowed kinds last [] = tt
 item_allowed kinds last (field ∷ fields) =
     let counted = columns_of kinds (length fields) in
-    let ordered : IfOk (stamp_of field >>= in_order last) (InOrder last) = bound InRange (InOrder last) (stamp_of field) (in_order last) (stamp_in_range field) (stamp_in_order last) in
+    let ordered : IfOk (stamp_of field >>= at_floor last) (InOrder last) = bound InRange (InOrder last) (stamp_of field) (at_floor last) (stamp_in_range field) (stamp_in_order last) in
     let with_values : (stamp : ℕ) → InOrder last stamp → IfOk (item_with kinds stamp fields) (Allowed kinds last) = λ stamp h. with_allowed kinds last stamp fields h in
-    bound (λ (count : ℕ). ⊤) (Allowed kinds last) counted (λ count. stamp_of field >>= in_order last >>= λ stamp. item_with kinds stamp fields) (any counted)
-    (λ count _. bound (InOrder last) (Allowed kinds last) (stamp_of field >>= in_order last) (λ stamp. item_with kinds stamp fields) ordered with_values)
+    bound (λ (count : ℕ). ⊤) (Allowed kinds last) counted (λ count. stamp_of field >>= at_floor last >>= λ stamp. item_with kinds stamp fields) (any counted)
+    (λ count _. bound (InOrder last) (Allowed kinds last) (stamp_of field >>= at_floor last) (λ stamp. item_with kinds stamp fields) ordered with_values)
 
 -- what is known of a line by what it is
-abbrev pub Allows : List Kind → Behind → ℕ → Verdict → Type 0
-Allows kinds behind size Pass = behind.bytes + size ≤ most_bytes
-Allows kinds behind size (Give item) = (behind.bytes + size ≤ most_bytes) × (behind.items ≢ most_items) × Allowed kinds behind.last item
-Allows kinds behind size (Refuse refusal) = ⊤
-Allows kinds behind size Limit = ⊤
+abbrev pub Allows : List Kind → ℕ → Reached → ℕ → Verdict → Type 0
+Allows kinds slack reached size Pass = reached.bytes + size ≤ most_bytes
+Allows kinds slack reached size (Give item) = (reached.bytes + size ≤ most_bytes) × (reached.items ≢ most_items) × Allowed kinds (floor slack reached) item
+Allows kinds slack reached size (Refuse refusal) = ⊤
+Allows kinds slack reached size Limit = ⊤
 
-verdict_allows : (kinds : List Kind) (behind : Behind) (size : ℕ) (r : Result Item RowWhy) → behind.bytes + size ≤ most_bytes → behind.items ≢ most_items
-    → IfOk r (Allowed kinds behind.last) → Allows kinds behind size (verdict_of r)
-verdict_allows kinds behind size (Ok item) short few h = (short, few, h)
-verdict_allows kinds behind size (Err refusal) short few h = tt
+verdict_allows : (kinds : List Kind) (slack : ℕ) (reached : Reached) (size : ℕ) (r : Result Item RowWhy) → reached.bytes + size ≤ most_bytes → reached.items ≢ most_items
+    → IfOk r (Allowed kinds (floor slack reached)) → Allows kinds slack reached size (verdict_of r)
+verdict_allows kinds slack reached size (Ok item) short few h = (short, few, h)
+verdict_allows kinds slack reached size (Err refusal) short few h = tt
 
-counted_by : (kinds : List Kind) (behind : Behind) (size : ℕ) (many : Bool) (v : Verdict) → (behind.items == most_items) ≡ many → (behind.items ≢ most_items → Allows kinds behind size v)
-    → Allows kinds behind size (cond many Limit v)
-counted_by kinds behind size true v e h = tt
-counted_by kinds behind size false v e h = h (eqb-false behind.items most_items e)
+counted_by : (kinds : List Kind) (slack : ℕ) (reached : Reached) (size : ℕ) (many : Bool) (v : Verdict) → (reached.items == most_items) ≡ many → (reached.items ≢ most_items → Allows kinds slack reached size v)
+    → Allows kinds slack reached size (cond many Limit v)
+counted_by kinds slack reached size true v e h = tt
+counted_by kinds slack reached size false v e h = h (eqb-false reached.items most_items e)
 
-header_by : (kinds : List Kind) (behind : Behind) (size : ℕ) (fits : Bool) → behind.bytes + size ≤ most_bytes → Allows kinds behind size (cond fits Pass (Refuse why.Header))
-header_by kinds behind size true short = short
-header_by kinds behind size false short = tt
+header_by : (kinds : List Kind) (slack : ℕ) (reached : Reached) (size : ℕ) (fits : Bool) → reached.bytes + size ≤ most_bytes → Allows kinds slack reached size (cond fits Pass (Refuse why.Header))
+header_by kinds slack reached size true short = short
+header_by kinds slack reached size false short = tt
 
-header_allows : (kinds : List Kind) (behind : Behind) (size : ℕ) (content : Content) → behind.bytes + size ≤ most_bytes → Allows kinds behind size (judge_header kinds content)
-header_allows kinds behind size blank short = tt
-header_allows kinds behind size (single fields) short = header_by kinds behind size (length fields == length kinds + 1) short
-header_allows kinds behind size several short = tt
+header_allows : (kinds : List Kind) (slack : ℕ) (reached : Reached) (size : ℕ) (content : Content) → reached.bytes + size ≤ most_bytes → Allows kinds slack reached size (judge_header kinds content)
+header_allows kinds slack reached size blank short = tt
+header_allows kinds slack reached size (single fields) short = header_by kinds slack reached size (length fields == length kinds + 1) short
+header_allows kinds slack reached size several short = tt
 
-later_allows : (kinds : List Kind) (behind : Behind) (size : ℕ) (content : Content) → behind.bytes + size ≤ most_bytes → Allows kinds behind size (judge_later kinds behind content)
-later_allows kinds behind size blank short = short
-later_allows kinds behind size (single fields) short =
-    counted_by kinds behind size (behind.items == most_items) (verdict_of (item_of kinds behind.last fields)) refl
-    (λ few. verdict_allows kinds behind size (item_of kinds behind.last fields) short few (item_allowed kinds behind.last fields))
-later_allows kinds behind size several short = counted_by kinds behind size (behind.items == most_items) (Refuse why.Fields) refl (λ few. tt)
+later_allows : (kinds : List Kind) (slack : ℕ) (reached : Reached) (size : ℕ) (content : Content) → reached.bytes + size ≤ most_bytes → Allows kinds slack reached size (judge_later kinds slack reached content)
+later_allows kinds slack reached size blank short = short
+later_allows kinds slack reached size (single fields) short =
+    counted_by kinds slack reached size (reached.items == most_items) (verdict_of (item_of kinds (floor slack reached) fields)) refl
+    (λ few. verdict_allows kinds slack reached size (item_of kinds (floor slack reached) fields) short few (item_allowed kinds (floor slack reached) fields))
+later_allows kinds slack reached size several short = counted_by kinds slack reached size (reached.items == most_items) (Refuse why.Fields) refl (λ few. tt)
 
-content_by : (kinds : List Kind) (behind : Behind) (size : ℕ) (first : Bool) (content : Content) → behind.bytes + size ≤ most_bytes
-    → Allows kinds behind size (cond first (judge_header kinds content) (judge_later kinds behind content))
-content_by kinds behind size true content short = header_allows kinds behind size content short
-content_by kinds behind size false content short = later_allows kinds behind size content short
+content_by : (kinds : List Kind) (slack : ℕ) (reached : Reached) (size : ℕ) (first : Bool) (content : Content) → reached.bytes + size ≤ most_bytes
+    → Allows kinds slack reached size (cond first (judge_header kinds content) (judge_later kinds slack reached content))
+content_by kinds slack reached size true content short = header_allows kinds slack reached size content short
+content_by kinds slack reached size false content short = later_allows kinds slack reached size content short
 
-line_by : (kinds : List Kind) (behind : Behind) (size : ℕ) (long : Bool) (v : Verdict) → nat_lt most_bytes (behind.bytes + size) ≡ long → (behind.bytes + size ≤ most_bytes → Allows kinds behind size v)
-    → Allows kinds behind size (cond long Limit v)
-line_by kinds behind size true v e h = tt
-line_by kinds behind size false v e h = h (ltb-false most_bytes (behind.bytes + size) e)
+line_by : (kinds : List Kind) (slack : ℕ) (reached : Reached) (size : ℕ) (long : Bool) (v : Verdict) → nat_lt most_bytes (reached.bytes + size) ≡ long → (reached.bytes + size ≤ most_bytes → Allows kinds slack reached size v)
+    → Allows kinds slack reached size (cond long Limit v)
+line_by kinds slack reached size true v e h = tt
+line_by kinds slack reached size false v e h = h (ltb-false most_bytes (reached.bytes + size) e)
 
-pub judge_allows : (kinds : List Kind) (behind : Behind) (line : Line) → Allows kinds behind (size_of line) (judge kinds behind line)
+pub judge_allows : (kinds : List Kind) (slack : ℕ) (reached : Reached) (line : Line) → Allows kinds slack reached (size_of line) (judge kinds slack reached line)
 unfolding judge
-judge_allows kinds behind line =
+judge_allows kinds slack reached line =
     let content = content_of (strip_carriage_return line.text) in
-    line_by kinds behind (size_of line) (nat_lt most_bytes (behind.bytes + size_of line)) (judge_content kinds behind content) refl
-    (λ short. content_by kinds behind (size_of line) (behind.lines == 0) content short)
+    line_by kinds slack reached (size_of line) (nat_lt most_bytes (reached.bytes + size_of line)) (judge_content kinds slack reached content) refl
+    (λ short. content_by kinds slack reached (size_of line) (reached.lines == 0) content short)
 
 -- the same of a verdict that was found
-pub found_allows : (kinds : List Kind) (behind : Behind) (line : Line) (v : Verdict) → v ≡ judge kinds behind line → Allows kinds behind (size_of line) v
-found_allows kinds behind line v e = subst (Allows kinds behind (size_of line)) (sym e) (judge_allows kinds behind line)
+pub found_allows : (kinds : List Kind) (slack : ℕ) (reached : Reached) (line : Line) (v : Verdict) → v ≡ judge kinds slack reached line → Allows kinds slack reached (size_of line) v
+found_allows kinds slack reached line v e = subst (Allows kinds slack reached (size_of line)) (sym e) (judge_allows kinds slack reached line)
 
-pub passes : (kinds : List Kind) (behind now : Behind) (size : ℕ) → 0 < size → Allows kinds behind size Pass → now ≡ past_line behind size → Passes behind now
-passes kinds behind now size some short e = subst (Passes behind) (sym e) (record { items = refl; last = refl; bytes = omega arith; short = short })
+pub passes : (kinds : List Kind) (slack : ℕ) (reached now : Reached) (size : ℕ) → 0 < size → Allows kinds slack reached size Pass → now ≡ after_line reached size → PassesLine reached now
+passes kinds slack reached now size some short e = subst (PassesLine reached) (sym e) (record { items = refl; newest = refl; beat = refl; bytes = omega arith; short = short })
 
-pub follows : (kinds : List Kind) (behind now : Behind) (size : ℕ) (item : Item) (stamp : ℕ) → 0 < size → Allows kinds behind size (Give item) → behind.items ≤ most_items
-    → stamp ≡ stamp_in item → now ≡ past_item behind size stamp → Follows kinds behind now item
-follows kinds behind now size item stamp some allows few at e =
+pub follows : (kinds : List Kind) (slack : ℕ) (reached now : Reached) (size : ℕ) (item : Item) → 0 < size
+    → Allows kinds slack reached size (Give item) → reached.items ≤ most_items
+    → now ≡ after_item reached size item → ArrivalFollows kinds slack reached now item
+follows kinds slack reached now size item some allows few e =
     let other = allows.1 in
-    let after : Follows kinds behind (past_item behind size stamp) item =
+    let after : ArrivalFollows kinds slack reached (after_item reached size item) item =
     record {
-      in_order = allows.2.in_order;
+      at_floor = allows.2.at_floor;
       in_range = allows.2.in_range;
-      last = at;
+      newest = refl;
+      beat = refl;
       fits = allows.2.fits;
       counted = refl;
       few = omega arith;
       bytes = omega arith;
       short = allows.0;
     } in
-    subst (λ (b : Behind). Follows kinds behind b item) (sym e) after
+    subst (λ (b : Reached). ArrivalFollows kinds slack reached b item) (sym e) after

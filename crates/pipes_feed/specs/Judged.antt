@@ -15,7 +15,7 @@ use Rattle.pipes_feed.specs.declared.reason.RowWhy.{RowWhy}
 use Rattle.pipes_feed.specs.declared.reason.RowWhy.TheVariants as why
 use Rattle.pipes_feed.specs.declared.line.Verdict.{Verdict}
 use Rattle.pipes_feed.specs.declared.line.Verdict.TheVariants.{Pass, Give, Refuse, Limit}
-use Rattle.pipes_feed.specs.Behind.{Behind, most_bytes, most_items}
+use Rattle.pipes_feed.specs.Reached.{Reached, floor, most_bytes, most_items}
 
 infixl 10 ◌>>=◌
 -- the first refusal, or what is made of the value
@@ -34,9 +34,9 @@ stamp_of field =
     then (if nat_lt (digits_value 10 field) horizon then Ok (digits_value 10 field) else Err why.Range)
     else Err why.Stamp
 
--- a stamp that is not below the last
-abbrev pub in_order : ℕ → ℕ → Result ℕ RowWhy
-in_order last stamp = if nat_lt stamp last then Err (why.Falling stamp last) else Ok stamp
+-- a stamp that is not below the floor
+abbrev pub at_floor : ℕ → ℕ → Result ℕ RowWhy
+at_floor low stamp = if nat_lt stamp low then Err (why.Falling stamp low) else Ok stamp
 
 -- a value, or why the field of this column is none
 abbrev pub value_of : ℕ → Result Value ValueRefusal → Result Value RowWhy
@@ -48,7 +48,8 @@ abbrev pub values_of : ℕ → List Kind → List (List ℕ) → Result (List Va
 values_of column [] fields = Ok []
 values_of column (kind ∷ kinds) [] = Err why.Fields
 values_of column (kind ∷ kinds) (field ∷ fields) =
-    value_of column (reading kind field) >>= λ value. values_of (column + 1) kinds fields >>= λ values. Ok (value ∷ values)
+    value_of column (reading kind field) >>= λ value.
+    values_of (column + 1) kinds fields >>= λ values. Ok (value ∷ values)
 
 -- a stamp alone is a heartbeat, and a row has values beside it
 abbrev pub item_with : List Kind → ℕ → List (List ℕ) → Result Item RowWhy
@@ -56,11 +57,12 @@ item_with kinds stamp fields =
     if length fields == 0 then Ok (Beat stamp)
     else (values_of 0 kinds fields >>= λ tuple. Ok (Row stamp tuple))
 
--- the item that a record is, behind items with this greatest stamp
+-- the arrival that a record is, where this is the floor
 abbrev pub item_of : List Kind → ℕ → List (List ℕ) → Result Item RowWhy
-item_of kinds last [] = Err why.Fields
-item_of kinds last (field ∷ fields) =
-    columns_of kinds (length fields) >>= λ count. stamp_of field >>= in_order last >>= λ stamp. item_with kinds stamp fields
+item_of kinds low [] = Err why.Fields
+item_of kinds low (field ∷ fields) =
+    columns_of kinds (length fields) >>= λ count.
+    stamp_of field >>= at_floor low >>= λ stamp. item_with kinds stamp fields
 
 -- an item, or a refusal
 abbrev pub verdict_of : Result Item RowWhy → Verdict
@@ -74,22 +76,23 @@ judge_header kinds (single fields) = if length fields == length kinds + 1 then P
 judge_header kinds several = Refuse why.Header
 
 -- a record, unless there are already as many items as there may be
-abbrev pub counted : Behind → Verdict → Verdict
-counted behind verdict = if behind.items == most_items then Limit else verdict
+abbrev pub counted : Reached → Verdict → Verdict
+counted reached verdict = if reached.items == most_items then Limit else verdict
 
 -- a later line
-abbrev pub judge_later : List Kind → Behind → Content → Verdict
-judge_later kinds behind blank = Pass
-judge_later kinds behind (single fields) = counted behind (verdict_of (item_of kinds behind.last fields))
-judge_later kinds behind several = counted behind (Refuse why.Fields)
+abbrev pub judge_later : List Kind → ℕ → Reached → Content → Verdict
+judge_later kinds slack reached blank = Pass
+judge_later kinds slack reached (single fields) =
+    counted reached (verdict_of (item_of kinds (floor slack reached) fields))
+judge_later kinds slack reached several = counted reached (Refuse why.Fields)
 
 -- a line by what it holds
-abbrev pub judge_content : List Kind → Behind → Content → Verdict
-judge_content kinds behind content =
-    if behind.lines == 0 then judge_header kinds content else judge_later kinds behind content
+abbrev pub judge_content : List Kind → ℕ → Reached → Content → Verdict
+judge_content kinds slack reached content =
+    if reached.lines == 0 then judge_header kinds content else judge_later kinds slack reached content
 
 -- a line: its bytes are counted first, and one carriage return before its end is dropped
-unfoldable pub judge : List Kind → Behind → Line → Verdict
-judge kinds behind line =
-    if nat_lt most_bytes (behind.bytes + size_of line) then Limit
-    else judge_content kinds behind (content_of (strip_carriage_return line.text))
+unfoldable pub judge : List Kind → ℕ → Reached → Line → Verdict
+judge kinds slack reached line =
+    if nat_lt most_bytes (reached.bytes + size_of line) then Limit
+    else judge_content kinds slack reached (content_of (strip_carriage_return line.text))

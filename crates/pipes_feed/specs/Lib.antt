@@ -1,6 +1,7 @@
-pub mod Behind
+pub mod Reached
 pub mod Judged
 pub mod Items
 pub mod State
 pub mod Ahead
-pub mod Answers
+pub mod AnswersJudged
+pub mod Waiting

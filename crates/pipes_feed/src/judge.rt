@@ -3,7 +3,7 @@ ghost use Rattle.std.specs.Prelude.{◌≡◌, ◌-◌, ◌^◌, ◌↔◌, ◌�
 ghost use Rattle.std.specs.Str.Parse.{digits_value};
 ghost use Rattle.pipes_tuple.specs.Reading.{is_numeral, reading};
 ghost use Rattle.pipes_line.specs.Fields.{fields_in};
-ghost use Rattle.pipes_feed.specs.Answers.{Answers};
+ghost use Rattle.pipes_feed.specs.AnswersJudged.{AnswersJudged};
 ghost use Rattle.pipes_feed.specs.Judged as judged;
 ghost use Rattle.pipes_feed.specs.declared.judge.Fault.TheVariants as faults;
 
@@ -39,22 +39,22 @@ impl From<Memory> for Fault {
     }
 }
 
-/// The item of a record, which was read from this line, behind items with this greatest stamp.
+/// The arrival of a record, which was read from this line, where this is the floor.
 pub(crate) fn item_of(
     alloc: Global,
     schema: &Schema,
-    last: u64,
+    low: u64,
     line: &[u8],
     fields: &Record,
 ) -> Result<Item, Fault>
-    ensures { Answers (λ item. item) result (judged.item_of schema.now last (fields_in fields.now line.now)) }
+    ensures { AnswersJudged (λ item. item) result (judged.item_of schema.now low (fields_in fields.now line.now)) }
 {
     let Some(field) = fields.field(line, 0) else {
         return Err(Fault::Refused(RowWhy::Fields));
     };
     let count = columns_of(schema, fields.len() - 1)?;
     let stamp = stamp_of(field)?;
-    let stamp = in_order(last, stamp)?;
+    let stamp = at_floor(low, stamp)?;
     item_with(alloc, schema, stamp, count, line, fields)
 }
 
@@ -103,11 +103,12 @@ fn number_of(digits: &[u8]) -> Option<u64>
     Some(number)
 }
 
-fn in_order(last: u64, stamp: u64) -> Result<u64, RowWhy>
-    ensures { result ≡ judged.in_order last stamp }
+// A stamp that is not below the floor.
+fn at_floor(low: u64, stamp: u64) -> Result<u64, RowWhy>
+    ensures { result ≡ judged.at_floor low stamp }
 {
-    if stamp < last {
-        Err(RowWhy::Falling { stamp, last })
+    if stamp < low {
+        Err(RowWhy::Falling { stamp, last: low })
     } else {
         Ok(stamp)
     }
@@ -123,7 +124,7 @@ fn item_with(
     fields: &Record,
 ) -> Result<Item, Fault>
     requires { count ≡ length (drop 1 (fields_in fields.now line.now)) }
-    ensures { Answers (λ item. item) result (judged.item_with schema.now stamp (drop 1 (fields_in fields.now line.now))) }
+    ensures { AnswersJudged (λ item. item) result (judged.item_with schema.now stamp (drop 1 (fields_in fields.now line.now))) }
 {
     if count == 0 {
         return Ok(Item::Beat(stamp));
@@ -140,7 +141,7 @@ fn values_of(
     fields: &Record,
 ) -> Result<Vec<Value>, Fault>
     ensures count { IfOk result (λ values. (1 ≤ vec_len values) × (vec_len values ≤ 32)) }
-    ensures values { Answers (λ values. values.items) result (judged.values_of 0 schema.now (drop 1 (fields_in fields.now line.now))) }
+    ensures values { AnswersJudged (λ values. values.items) result (judged.values_of 0 schema.now (drop 1 (fields_in fields.now line.now))) }
 {
     let kinds = schema.as_slice();
     let mut values = with_room(alloc, kinds.len())?;
@@ -172,7 +173,7 @@ fn push(values: &mut Vec<Value>, value: Value) -> Result<(), Memory>
 
 // The value of a column.
 fn value_of(alloc: Global, column: u32, kind: Kind, field: &[u8]) -> Result<Value, Fault>
-    ensures { Answers (λ value. value) result (judged.value_of column (reading kind field.now)) }
+    ensures { AnswersJudged (λ value. value) result (judged.value_of column (reading kind field.now)) }
 {
     match Value::read(alloc, kind, field) {
         Ok(value) => Ok(value),

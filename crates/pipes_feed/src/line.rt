@@ -4,12 +4,12 @@ ghost use Rattle.std.specs.Str.Lines.{strip_carriage_return};
 ghost use Rattle.pipes_line.specs.Content.{Content, content_of, Shows};
 ghost use Rattle.pipes_line.specs.Fields.{fields_in};
 ghost use Rattle.pipes_line.specs.Lines as lines;
-ghost use Rattle.pipes_feed.specs.Behind.{most_bytes};
+ghost use Rattle.pipes_feed.specs.Reached.{most_bytes};
 ghost use Rattle.pipes_feed.specs.Judged as judged;
 
 use crate::RowWhy;
 use crate::judge::{Fault, item_of};
-use crate::progress::{MOST_BYTES, MOST_ITEMS, Progress};
+use crate::place::{MOST_BYTES, MOST_ITEMS, Place};
 use pipes_line::{Record, Shape};
 use pipes_time::Memory;
 use pipes_tuple::Schema;
@@ -21,7 +21,7 @@ use std::alloc::Global;
 pub(crate) enum Verdict {
     /// It is passed over.
     Pass,
-    /// It is an item.
+    /// It is an arrival.
     Give(Item),
     /// It is refused.
     Refuse(RowWhy),
@@ -34,23 +34,24 @@ pub(crate) enum Verdict {
 pub(crate) fn judge(
     alloc: Global,
     schema: &Schema,
-    progress: &Progress,
+    slack: u64,
+    place: &Place,
     text: &[u8],
     ended: bool,
     fields: &mut Record,
 ) -> Result<Verdict, Memory>
     requires { length text.now ≤ most_bytes }
-    ensures { IfOk result (λ verdict. verdict ≡ judged.judge schema.now progress.now (record { text = text.now; ended = ended })) }
+    ensures { IfOk result (λ verdict. verdict ≡ judged.judge schema.now slack place.now (record { text = text.now; ended = ended })) }
 {
-    if MOST_BYTES < progress.bytes() + size_of(text, ended) {
+    if MOST_BYTES < place.bytes() + size_of(text, ended) {
         return Ok(Verdict::Limit);
     }
     let line = strip(text);
     let shape = fields.read(line)?;
-    if progress.lines() == 0 {
+    if place.lines() == 0 {
         Ok(judge_header(schema, shape, line, fields))
     } else {
-        judge_later(alloc, schema, progress, shape, line, fields)
+        judge_later(alloc, schema, slack, place, shape, line, fields)
     }
 }
 
@@ -88,18 +89,19 @@ fn judge_header(schema: &Schema, shape: Shape, line: &[u8], fields: &Record) -> 
 fn judge_later(
     alloc: Global,
     schema: &Schema,
-    progress: &Progress,
+    slack: u64,
+    place: &Place,
     shape: Shape,
     line: &[u8],
     fields: &Record,
 ) -> Result<Verdict, Memory>
-    ensures { IfOk result (λ verdict. (content : Content) → Shows shape (fields_in fields.now line.now) content → verdict ≡ judged.judge_later schema.now progress.now content) }
+    ensures { IfOk result (λ verdict. (content : Content) → Shows shape (fields_in fields.now line.now) content → verdict ≡ judged.judge_later schema.now slack place.now content) }
 {
     match shape {
         Shape::Blank => Ok(Verdict::Pass),
-        _ if progress.items() == MOST_ITEMS => Ok(Verdict::Limit),
+        _ if place.items() == MOST_ITEMS => Ok(Verdict::Limit),
         Shape::Several => Ok(Verdict::Refuse(RowWhy::Fields)),
-        Shape::Single => match item_of(alloc, schema, progress.last(), line, fields) {
+        Shape::Single => match item_of(alloc, schema, place.floor(slack), line, fields) {
             Ok(item) => Ok(Verdict::Give(item)),
             Err(Fault::Refused(why)) => Ok(Verdict::Refuse(why)),
             Err(Fault::Memory) => Err(Memory),

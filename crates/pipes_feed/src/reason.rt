@@ -1,4 +1,4 @@
-// How the items of a source end.
+// How the arrivals of a source end.
 use pipes_tuple::ValueRefusal;
 
 /// Why a line is refused.
@@ -12,23 +12,24 @@ pub enum RowWhy {
     Stamp,
     /// The stamp is not below the horizon.
     Range,
-    /// The stamp is below the greatest of the items before.
+    /// The stamp is below the floor: the greatest stamp of a row before less the slack, or the
+    /// greatest of a heartbeat before.
     Falling {
         /// The stamp.
         stamp: u64,
-        /// The greatest stamp of the items before.
+        /// The floor.
         last: u64,
     },
     /// A field is no value of its column's kind.
     Value {
         /// The column, counted from 0.
         column: u32,
-        /// Why. Never want of memory.
+        /// Why. Never out of memory.
         why: ValueRefusal,
     },
 }
 
-/// How the items of a source end.
+/// How the arrivals of a source end.
 #[derive(Clone, Copy, Debug, PartialEq, Eq)]
 pub enum Reason {
     /// All lines were read.
@@ -42,11 +43,11 @@ pub enum Reason {
     },
     /// A read failed.
     Failed,
-    /// A line is past a limit of bytes or of items.
+    /// A line is past a limit of bytes or of arrivals.
     Limit {
         /// The line, counted from 1.
         line: u64,
     },
-    /// Want of memory.
+    /// Out of memory.
     Memory,
 }

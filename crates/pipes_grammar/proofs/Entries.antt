@@ -2,9 +2,9 @@
 use Rattle.std.proofs.Common.{◌≡◌, ℕ, zero, suc, ◌<◌, true, false, List, [], ◌∷◌, ◌++◌, Result, Ok, Err, refl, sym, ap, ◌∙◌, append_assoc, arith}
 use Rattle.pipes_token.specs.declared.refusal.Refusal.{Refusal}
 use Rattle.pipes_token.specs.declared.token.Token.{Token}
-use Rattle.pipes_grammar.specs.declared.fault.ParseFault.{ParseFault}
-use Rattle.pipes_grammar.specs.declared.fault.ParseFault.TheVariants.{Refused, Memory}
-use Rattle.pipes_grammar.specs.Reading.{Reads, Fails, ◌>>=◌, too_many}
+use Rattle.pipes_reader.specs.declared.fault.ParseFault.{ParseFault}
+use Rattle.pipes_reader.specs.declared.fault.ParseFault.TheVariants.{Refused, Memory}
+use Rattle.pipes_reader.specs.Reading.{Reads, Fails, ◌>>=◌, too_many}
 use Rattle.pipes_grammar.specs.ListReading.{step_from, behind, entries_within}
 
 -- what was read so far, and all that is to be read

@@ -14,10 +14,11 @@ use Rattle.pipes_plan.specs.Sizes.{expr_depth}
 use Rattle.pipes_grammar.specs.Grammar.{IsExpr, AreEntries, last, more, IsFilled, entries, IsList, IsColumn, IsPair, IsAgg, count, sum, least, greatest, average}
 use Rattle.pipes_grammar.specs.Grammar as grammar
 use Rattle.pipes_grammar.specs.Limits.{deepest, IsExprText, AreExprsText}
-use Rattle.pipes_grammar.specs.Reading.{Reads, ◌>>=◌, kinds_of, Front, refused_by, wanted}
+use Rattle.pipes_reader.specs.Reading.{Reads, ◌>>=◌, kinds_of, refused_by}
+use Rattle.pipes_grammar.specs.Reading.{Front, wanted}
 use Rattle.pipes_grammar.specs.ExprReading.{read_column, parse_expr}
 use Rattle.pipes_grammar.specs.ListReading.{is_equal, read_pair, agg_of, agg_start_of, agg_by, read_agg, parse_exprs, parse_pairs, parse_columns, parse_aggs}
-use Rattle.pipes_grammar.specs.Places.{Begins}
+use Rattle.pipes_reader.specs.Sentences.{Begins}
 use Rattle.pipes_grammar.proofs.Readers.{IsReader, Then, both, in_turn, reads_in_turn}
 use Rattle.pipes_grammar.proofs.Layers.{Nothing, nothing, with_end, reads_nothing, reads_as, ThisKind, one, reads_wanted, Branch, goes, takes, refuses, at_refused, layer_found, layer_first, layer_only, layer_one}
 use Rattle.pipes_grammar.proofs.Leaves.{reads_column}

@@ -15,9 +15,11 @@ use Rattle.pipes_grammar.specs.Ops.{op_of, joined}
 use Rattle.pipes_grammar.specs.Grammar.{IsColumn, IsExpr, column, number, negative, text, truth, falsehood, negated, pair}
 use Rattle.pipes_grammar.specs.Grammar as grammar
 use Rattle.pipes_grammar.specs.Limits.{IsExprText}
-use Rattle.pipes_grammar.specs.Reading.{Reads, ◌>>=◌, kinds_of, Front, done, refusal, refused_by, place_of, too_deep, run_out, wanted}
+use Rattle.pipes_reader.specs.Reading.{Reads, ◌>>=◌, kinds_of, done, refusal, refused_by, place_of, too_deep, run_out}
+use Rattle.pipes_grammar.specs.Reading.{Front, wanted}
 use Rattle.pipes_grammar.specs.ExprReading.{is_close, read_column, read_negative, read_op, pair_from, not_from, column_expr, negative_expr, expr_by, expr_layer, expr_within, parse_expr}
-use Rattle.pipes_grammar.specs.Places.{Begins, RunsOut}
+use Rattle.pipes_reader.specs.Sentences.{Begins}
+use Rattle.pipes_grammar.specs.Places.{RunsOut}
 use Rattle.std.proofs.lemmas.List.{append-nil}
 use Rattle.pipes_grammar.proofs.Readers.{there, inside, here, deep, Refuses, IsReader, Then, both, in_turn, reads_in_turn}
 use Rattle.pipes_grammar.proofs.Layers.{Nothing, with_end, reads_nothing, ThisKind, one, nothing, reads_wanted, Branch, goes, takes, refuses, at_refused, layer_found, layer_first, layer_only, layer_one}

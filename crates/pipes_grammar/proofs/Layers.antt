@@ -4,9 +4,11 @@ use Rattle.pipes_token.specs.declared.refusal.Refusal.{Refusal}
 use Rattle.pipes_token.specs.declared.token.TokenKind.{TokenKind}
 use Rattle.pipes_token.specs.declared.token.TokenKind.TheVariants.{Sign, Keyword, Name, Number, Text, Long, Cut, Byte, End}
 use Rattle.pipes_token.specs.declared.token.Token.{Token}
-use Rattle.pipes_grammar.specs.Reading.{Reads, ◌>>=◌, kinds_of, Front, done, run_out, refused_by, wanted}
-use Rattle.pipes_grammar.specs.Places.{Begins, RunsOut}
-use Rattle.pipes_grammar.proofs.TokenLists.{uncons, none}
+use Rattle.pipes_reader.specs.Reading.{Reads, ◌>>=◌, kinds_of, done, run_out, refused_by}
+use Rattle.pipes_grammar.specs.Reading.{Front, wanted}
+use Rattle.pipes_reader.specs.Sentences.{Begins}
+use Rattle.pipes_grammar.specs.Places.{RunsOut}
+use Rattle.pipes_reader.proofs.TokenLists.{uncons, none}
 use Rattle.pipes_grammar.proofs.Readers.{AtToken, there, inside, Ends, here, in_expr, deep, Stops, Refuses, IsReader}
 
 abbrev pub token : ℕ → TokenKind → Token

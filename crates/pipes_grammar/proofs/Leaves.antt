@@ -10,9 +10,9 @@ use Rattle.pipes_grammar.specs.declared.op.Op.{Op}
 use Rattle.pipes_grammar.specs.declared.op.Op.TheVariants.{Add}
 use Rattle.pipes_grammar.specs.Ops.{op_of}
 use Rattle.pipes_grammar.specs.Grammar.{IsColumn, column}
-use Rattle.pipes_grammar.specs.Reading.{Reads, kinds_of, refusal, refused_by}
+use Rattle.pipes_reader.specs.Reading.{Reads, kinds_of, refusal, refused_by}
 use Rattle.pipes_grammar.specs.ExprReading.{column_by, read_column, negative_by, read_negative, op_or, read_op}
-use Rattle.pipes_grammar.specs.Places.{Begins}
+use Rattle.pipes_reader.specs.Sentences.{Begins}
 use Rattle.pipes_grammar.proofs.Readers.{there, IsReader}
 use Rattle.pipes_grammar.proofs.Layers.{Branch, takes, refuses, at_refused, layer_found, layer_first, layer_one}
 

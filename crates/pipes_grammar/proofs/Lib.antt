@@ -1,5 +1,4 @@
 pub mod Entries
-pub mod TokenLists
 pub mod Readers
 pub mod Layers
 pub mod Depths
@@ -12,3 +11,4 @@ pub mod EntryReaders
 pub mod NodeReaders
 pub mod PlanLevels
 pub mod WholePlans
+pub mod KitReaders

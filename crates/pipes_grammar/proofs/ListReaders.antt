@@ -8,10 +8,12 @@ use Rattle.pipes_token.specs.declared.token.TokenKind.{TokenKind}
 use Rattle.pipes_token.specs.declared.token.TokenKind.TheVariants.{Sign, Byte, End}
 use Rattle.pipes_token.specs.declared.token.Token.{Token}
 use Rattle.pipes_grammar.specs.Grammar.{AreEntries, last, more, IsFilled, entries, IsList, empty, filled}
-use Rattle.pipes_grammar.specs.Reading.{Reads, ◌>>=◌, kinds_of, Front, done, refusal, refused_by, refused_as, run_out, too_many, wanted}
+use Rattle.pipes_reader.specs.Reading.{Reads, ◌>>=◌, kinds_of, done, refusal, refused_by, refused_as, run_out, too_many}
+use Rattle.pipes_grammar.specs.Reading.{Front, wanted}
 use Rattle.pipes_grammar.specs.ListReading.{is_open_list, goes_on_by, read_goes_on, step_from, behind, followed, entries_within, filled_from, list_by, entries_from, list_from}
-use Rattle.pipes_grammar.specs.Places.{Begins, RunsOut}
-use Rattle.pipes_grammar.proofs.TokenLists.{uncons, none}
+use Rattle.pipes_reader.specs.Sentences.{Begins}
+use Rattle.pipes_grammar.specs.Places.{RunsOut}
+use Rattle.pipes_reader.proofs.TokenLists.{uncons, none}
 use Rattle.pipes_grammar.proofs.Readers.{AtToken, there, here, Ends, in_expr, deep, Stops, Refuses, IsReader, Then, both, in_turn, reads_in_turn, reads_anywhere}
 use Rattle.pipes_grammar.proofs.Layers.{token, one_value, Nothing, nothing, nothing_is, with_end, reads_nothing, reads_as, ThisKind, one, reads_wanted, Branch, takes, refuses, at_refused, layer_found, layer_first, layer_one}
 

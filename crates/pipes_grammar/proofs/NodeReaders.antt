@@ -12,7 +12,8 @@ use Rattle.pipes_plan.specs.declared.plan.Plan.{Plan}
 use Rattle.pipes_plan.specs.declared.plan.Plan.TheVariants as plan
 use Rattle.pipes_grammar.specs.Grammar.{IsExpr, IsFilled, IsList, IsColumn, IsPair, IsAgg}
 use Rattle.pipes_grammar.specs.Limits.{IsExprText, AreExprsText}
-use Rattle.pipes_grammar.specs.Reading.{Reads, ◌>>=◌, wanted}
+use Rattle.pipes_reader.specs.Reading.{Reads, ◌>>=◌}
+use Rattle.pipes_grammar.specs.Reading.{wanted}
 use Rattle.pipes_grammar.specs.ExprReading.{is_close, parse_expr}
 use Rattle.pipes_grammar.specs.ListReading.{parse_exprs, parse_pairs, parse_columns, parse_aggs}
 use Rattle.pipes_grammar.specs.PlanReading.{is_open, is_comma, filter_head, map_head, join_head, group_head, one_from, two_from, filter_from, map_from, union_from, join_from, distinct_from, group_from, minus_from}

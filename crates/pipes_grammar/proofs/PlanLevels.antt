@@ -18,9 +18,10 @@ use Rattle.pipes_plan.specs.declared.plan.Plan.TheVariants as plan
 use Rattle.pipes_plan.specs.Sizes.{expr_depth, plan_depth}
 use Rattle.pipes_grammar.specs.Grammar.{IsExpr, IsFilled, IsList, IsColumn, IsPair, IsAgg, source_named, IsPlan, source, filter, mapped, union, join, distinct, group, minus}
 use Rattle.pipes_grammar.specs.Limits.{deepest_expr, longest_list, IsExprText, AreExprsText}
-use Rattle.pipes_grammar.specs.Reading.{Reads, kinds_of, Front, refusal, refused_by}
+use Rattle.pipes_reader.specs.Reading.{Reads, kinds_of, refusal, refused_by}
+use Rattle.pipes_grammar.specs.Reading.{Front}
 use Rattle.pipes_grammar.specs.PlanReading.{source_or, plan_by, plan_layer, filter_from, map_from, union_from, join_from, distinct_from, group_from, minus_from}
-use Rattle.pipes_grammar.specs.Places.{Begins}
+use Rattle.pipes_reader.specs.Sentences.{Begins}
 use Rattle.pipes_grammar.proofs.Readers.{there, IsReader, Then, both}
 use Rattle.pipes_grammar.proofs.Layers.{nothing, with_end, ThisKind, one, Branch, goes, takes, refuses, at_refused, layer_found, layer_first, layer_only, layer_one}
 use Rattle.pipes_grammar.proofs.ListReaders.{ListWithin}

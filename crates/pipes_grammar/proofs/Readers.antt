@@ -7,9 +7,11 @@ use Rattle.pipes_token.specs.declared.token.TokenKind.TheVariants.{Sign, Keyword
 use Rattle.pipes_token.specs.declared.token.Token.{Token}
 use Rattle.pipes_grammar.specs.Grammar.{IsExpr}
 use Rattle.pipes_grammar.specs.Limits.{IsExprText}
-use Rattle.pipes_grammar.specs.Reading.{Reads, ◌>>=◌, kinds_of, Front, done, refusal, run_out, refused_by, too_deep, wanted}
-use Rattle.pipes_grammar.specs.Places.{Begins, RunsOut, IsTooDeep}
-use Rattle.pipes_grammar.proofs.TokenLists.{kinds-append, Parts, split, none, Cons, uncons}
+use Rattle.pipes_reader.specs.Reading.{Reads, ◌>>=◌, kinds_of, done, refusal, run_out, refused_by, too_deep}
+use Rattle.pipes_grammar.specs.Reading.{Front, wanted}
+use Rattle.pipes_reader.specs.Sentences.{Begins}
+use Rattle.pipes_grammar.specs.Places.{RunsOut, IsTooDeep}
+use Rattle.pipes_reader.proofs.TokenLists.{kinds-append, Parts, split, none, Cons, uncons}
 
 -- ---- where a refusal comes
 

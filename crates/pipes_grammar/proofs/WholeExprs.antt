@@ -5,13 +5,16 @@ use Rattle.pipes_token.specs.declared.token.TokenKind.{TokenKind}
 use Rattle.pipes_token.specs.declared.token.Token.{Token}
 use Rattle.pipes_plan.specs.declared.expr.Expr.{Expr}
 use Rattle.pipes_plan.specs.Sizes.{expr_depth}
-use Rattle.pipes_grammar.specs.declared.fault.ParseFault.{ParseFault}
-use Rattle.pipes_grammar.specs.declared.fault.ParseFault.TheVariants.{Refused, Memory}
+use Rattle.pipes_reader.specs.declared.fault.ParseFault.{ParseFault}
+use Rattle.pipes_reader.specs.declared.fault.ParseFault.TheVariants.{Refused, Memory}
 use Rattle.pipes_grammar.specs.Grammar.{IsExpr, column, number, negative, text, truth, falsehood, negated, pair}
 use Rattle.pipes_grammar.specs.Limits.{IsExprText}
-use Rattle.pipes_grammar.specs.Reading.{Reads, kinds_of, Front, Fails, place_of}
+use Rattle.pipes_reader.specs.Reading.{Reads, kinds_of, Fails, place_of}
+use Rattle.pipes_grammar.specs.Reading.{Front}
 use Rattle.pipes_grammar.specs.ExprReading.{expr_layer, expr_within, parse_expr}
-use Rattle.pipes_grammar.specs.Places.{Begins, RunsOut, FirstPlace, IsExprPlace, there, inside, deep, ExprRefused}
+use Rattle.pipes_reader.specs.Sentences.{Begins}
+use Rattle.pipes_reader.specs.Places.{FirstPlace}
+use Rattle.pipes_grammar.specs.Places.{RunsOut, IsExprPlace, there, inside, deep, ExprRefused}
 use Rattle.pipes_grammar.proofs.Readers.{AtToken, Refuses, IsReader}
 use Rattle.pipes_grammar.proofs.Readers as readers
 use Rattle.pipes_grammar.proofs.Layers.{reads_as}

@@ -6,13 +6,16 @@ use Rattle.pipes_token.specs.declared.token.TokenKind.{TokenKind}
 use Rattle.pipes_token.specs.declared.token.Token.{Token}
 use Rattle.pipes_plan.specs.declared.plan.Plan.{Plan}
 use Rattle.pipes_plan.specs.Sizes.{plan_depth}
-use Rattle.pipes_grammar.specs.declared.fault.ParseFault.{ParseFault}
-use Rattle.pipes_grammar.specs.declared.fault.ParseFault.TheVariants.{Refused, Memory}
+use Rattle.pipes_reader.specs.declared.fault.ParseFault.{ParseFault}
+use Rattle.pipes_reader.specs.declared.fault.ParseFault.TheVariants.{Refused, Memory}
 use Rattle.pipes_grammar.specs.Grammar.{IsPlan, source, filter, mapped, union, join, distinct, group, minus}
 use Rattle.pipes_grammar.specs.Limits.{IsPlanText}
-use Rattle.pipes_grammar.specs.Reading.{Reads, kinds_of, Front, Fails, place_of, too_deep}
+use Rattle.pipes_reader.specs.Reading.{Reads, kinds_of, Fails, place_of, too_deep}
+use Rattle.pipes_grammar.specs.Reading.{Front}
 use Rattle.pipes_grammar.specs.PlanReading.{plan_layer, plan_within, parse_plan}
-use Rattle.pipes_grammar.specs.Places.{Begins, RunsOut, FirstPlace, IsExprPlace, there, inside, IsPlanPlace, in_expr, PlanRefused}
+use Rattle.pipes_reader.specs.Sentences.{Begins}
+use Rattle.pipes_reader.specs.Places.{FirstPlace}
+use Rattle.pipes_grammar.specs.Places.{RunsOut, IsExprPlace, there, inside, IsPlanPlace, in_expr, PlanRefused}
 use Rattle.pipes_grammar.specs.Places as places
 use Rattle.pipes_grammar.proofs.Readers.{Refuses, IsReader}
 use Rattle.pipes_grammar.proofs.Readers as readers

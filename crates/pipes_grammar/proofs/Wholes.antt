@@ -8,9 +8,12 @@ use Rattle.pipes_token.specs.declared.token.TokenKind.TheVariants.{Byte, End}
 use Rattle.pipes_token.specs.declared.token.Token.{Token}
 use Rattle.pipes_grammar.specs.Grammar.{IsExpr}
 use Rattle.pipes_grammar.specs.Limits.{IsExprText}
-use Rattle.pipes_grammar.specs.Reading.{Reads, kinds_of, Front, done, refusal, run_out, refused_as, place_of, too_deep}
-use Rattle.pipes_grammar.specs.Places.{Begins, FirstPlace, RunsOut, IsTooDeep}
-use Rattle.pipes_grammar.proofs.TokenLists.{kinds-append, tokens_of, kinds-tokens}
+use Rattle.pipes_reader.specs.Reading.{Reads, kinds_of, done, refusal, run_out, refused_as, place_of, too_deep}
+use Rattle.pipes_grammar.specs.Reading.{Front}
+use Rattle.pipes_reader.specs.Sentences.{Begins}
+use Rattle.pipes_reader.specs.Places.{FirstPlace}
+use Rattle.pipes_grammar.specs.Places.{RunsOut, IsTooDeep}
+use Rattle.pipes_reader.proofs.TokenLists.{kinds-append, tokens_of, kinds-tokens}
 use Rattle.pipes_grammar.proofs.Readers.{AtToken, there, Ends, here, in_expr, deep, Stops, Refuses, IsReader}
 use Rattle.pipes_grammar.proofs.Layers.{token, at_refused}
 

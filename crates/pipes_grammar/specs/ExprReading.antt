@@ -13,7 +13,8 @@ use Rattle.pipes_grammar.specs.declared.op.Op.{Op}
 use Rattle.pipes_grammar.specs.declared.start.ExprStart.{ExprStart}
 use Rattle.pipes_grammar.specs.declared.start.ExprStart.TheVariants.{Pair, Not, Column, Negative, Flag, Leaf}
 use Rattle.pipes_grammar.specs.Ops.{op_of, joined}
-use Rattle.pipes_grammar.specs.Reading.{Reads, ◌>>=◌, run_out, refusal, refused_by, place_of, too_deep, wanted}
+use Rattle.pipes_reader.specs.Reading.{Reads, ◌>>=◌, run_out, refusal, refused_by, place_of, too_deep}
+use Rattle.pipes_grammar.specs.Reading.{wanted}
 
 abbrev pub is_close : TokenKind → Bool
 is_close (Sign Close) = true

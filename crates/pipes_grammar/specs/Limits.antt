@@ -5,6 +5,7 @@ use Rattle.pipes_plan.specs.declared.expr.Expr.{Expr}
 use Rattle.pipes_plan.specs.declared.plan.Plan.{Plan, fold-Plan}
 use Rattle.pipes_plan.specs.declared.plan.Plan.TheOpen.{Plan-F, Source, Filter, Map, Union, Join, Distinct, Group, Minus}
 use Rattle.pipes_plan.specs.Sizes.{expr_depth, plan_depth}
+pub use Rattle.pipes_plan.specs.Sizes.{lists_step, longest_list}
 use Rattle.pipes_grammar.specs.Grammar.{IsExpr, IsFilled, IsPlan}
 
 -- the depth of the deepest of these expressions
@@ -25,20 +26,6 @@ exprs_step (Minus a b) = max a b
 -- the depth of the deepest expression in a plan
 abbrev pub deepest_expr : Plan → ℕ
 deepest_expr = fold-Plan ℕ exprs_step
-
-abbrev pub lists_step : Plan-F ℕ → ℕ
-lists_step (Source i) = 0
-lists_step (Filter p a) = a
-lists_step (Map es a) = max (length es) a
-lists_step (Union a b) = max a b
-lists_step (Join k c a b) = max (length k) (max a b)
-lists_step (Distinct a) = a
-lists_step (Group k g a) = max (max (length k) (length g)) a
-lists_step (Minus a b) = max a b
-
--- the length of the longest list in a plan
-abbrev pub longest_list : Plan → ℕ
-longest_list = fold-Plan ℕ lists_step
 
 -- an expression within the limits
 pub record IsExprText (e : Expr) (ks : List TokenKind) : Type 0 where

@@ -13,7 +13,8 @@ use Rattle.pipes_plan.specs.declared.lists.Agg.{Agg}
 use Rattle.pipes_plan.specs.declared.lists.Agg.TheVariants as agg
 use Rattle.pipes_grammar.specs.declared.start.AggStart.{AggStart}
 use Rattle.pipes_grammar.specs.declared.start.AggStart.TheVariants.{Count, Sum, Min, Max, Avg, Other}
-use Rattle.pipes_grammar.specs.Reading.{Reads, ◌>>=◌, run_out, refused_by, too_many, wanted}
+use Rattle.pipes_reader.specs.Reading.{Reads, ◌>>=◌, run_out, refused_by, too_many}
+use Rattle.pipes_grammar.specs.Reading.{wanted}
 use Rattle.pipes_grammar.specs.ExprReading.{read_column, parse_expr}
 
 abbrev pub is_open_list : TokenKind → Bool

@@ -7,27 +7,13 @@ use Rattle.pipes_token.specs.declared.token.TokenKind.TheVariants.{Cut}
 use Rattle.pipes_token.specs.declared.token.Token.{Token}
 use Rattle.pipes_plan.specs.declared.expr.Expr.{Expr}
 use Rattle.pipes_plan.specs.declared.plan.Plan.{Plan}
-use Rattle.pipes_grammar.specs.declared.fault.ParseFault.{ParseFault}
-use Rattle.pipes_grammar.specs.declared.fault.ParseFault.TheVariants.{Refused, Memory}
-use Rattle.pipes_grammar.specs.Grammar.{IsExpr, IsPlan}
-use Rattle.pipes_grammar.specs.Limits.{IsExprText, IsPlanText}
-use Rattle.pipes_grammar.specs.Reading.{Reads, kinds_of, refusal, place_of, run_out}
-
--- some sentence begins so
-abbrev pub Begins : {A : Type 0} → (A → List TokenKind → Type 0) → List TokenKind → Type 0
-Begins {A} Is ks = (x : A) × (more : List TokenKind) × Is x (ks ++ more)
-
--- What stands before the refused token begins a sentence of some depth. With that token no sentence within the limits goes on, and
--- the refusal is the same whatever follows. Where says where in the text the refusal's place is.
-pub record FirstPlace {A : Type 0} (Is Within : A → List TokenKind → Type 0) (Where : List Token → Token → Refusal → Type 0) (read : Reads A) (ts : List Token) (r : Refusal) : Type 0 where
-  pub before : List Token
-  pub refused : Token
-  pub after : List Token
-  pub parts : ts ≡ before ++ (refused ∷ after)
-  pub begins : Begins Is (kinds_of before)
-  pub ends : ¬ (Begins Within (kinds_of (before ++ (refused ∷ []))))
-  pub stands : (other : List Token) → read (before ++ (refused ∷ other)) ≡ Err r
-  pub place : Where before refused r
+use Rattle.pipes_reader.specs.declared.fault.ParseFault.{ParseFault}
+use Rattle.pipes_reader.specs.declared.fault.ParseFault.TheVariants.{Refused, Memory}
+use Rattle.pipes_reader.specs.Sentences.{Begins}
+use Rattle.pipes_reader.specs.Places.{FirstPlace}
+use Rattle.pipes_grammar.specs.Grammar.{IsExpr, IsFilled, IsPlan}
+use Rattle.pipes_grammar.specs.Limits.{IsExprText, AreExprsText, IsPlanText}
+use Rattle.pipes_reader.specs.Reading.{Reads, kinds_of, refusal, place_of, run_out}
 
 -- all tokens begin a sentence, and none is left: they are no text's, since they lack its last token
 pub record RunsOut {A : Type 0} (Is : A → List TokenKind → Type 0) (ts : List Token) (r : Refusal) : Type 0 where
@@ -46,6 +32,11 @@ pub data IsExprPlace (before : List Token) (t : Token) (r : Refusal) : Type 0 wh
   inside : t.kind ≡ Cut r → IsExprPlace before t r
   deep : IsTooDeep IsExpr IsExprText before t r → IsExprPlace before t r
 
+-- where a refused list's place is: the same, of an expression in it or of the list's own tokens
+pub data IsExprsPlace (before : List Token) (t : Token) (r : Refusal) : Type 0 where
+  in_entry : (outside inside : List Token) → before ≡ outside ++ inside → IsExprPlace inside t r
+      → IsExprsPlace before t r
+
 -- where a refused plan's place is: the same, the expression being one in the plan, or at the plan's first token
 pub data IsPlanPlace (names : List (List ℕ)) (before : List Token) (t : Token) (r : Refusal) : Type 0 where
   in_expr : (outside inside : List Token) → before ≡ outside ++ inside → IsExprPlace inside t r → IsPlanPlace names before t r
@@ -56,6 +47,12 @@ pub data IsPlanPlace (names : List (List ℕ)) (before : List Token) (t : Token)
 abbrev pub ExprRefused : Reads Expr → List Token → ParseFault → Type 0
 ExprRefused read ts (Refused r) = RunsOut IsExpr ts r ⊎ FirstPlace IsExpr IsExprText IsExprPlace read ts r
 ExprRefused read ts Memory = Unit {0}
+
+abbrev pub ExprsRefused : Reads (List Expr) → List Token → ParseFault → Type 0
+ExprsRefused read ts (Refused r) =
+    RunsOut (IsFilled IsExpr) ts r
+    ⊎ FirstPlace (IsFilled IsExpr) AreExprsText IsExprsPlace read ts r
+ExprsRefused read ts Memory = Unit {0}
 
 abbrev pub PlanRefused : List (List ℕ) → Reads Plan → List Token → ParseFault → Type 0
 PlanRefused names read ts (Refused r) = RunsOut (IsPlan names) ts r ⊎ FirstPlace (IsPlan names) (IsPlanText names) (IsPlanPlace names) read ts r

@@ -14,7 +14,8 @@ use Rattle.pipes_plan.specs.declared.plan.Plan.TheVariants as plan
 use Rattle.pipes_grammar.specs.declared.start.PlanStart.{PlanStart}
 use Rattle.pipes_grammar.specs.declared.start.PlanStart.TheVariants.{Source, Filter, Map, Union, Join, Distinct, Group, Minus}
 use Rattle.pipes_grammar.specs.Grammar.{source_named}
-use Rattle.pipes_grammar.specs.Reading.{Reads, ◌>>=◌, run_out, refusal, refused_by, place_of, too_deep, wanted}
+use Rattle.pipes_reader.specs.Reading.{Reads, ◌>>=◌, run_out, refusal, refused_by, place_of, too_deep}
+use Rattle.pipes_grammar.specs.Reading.{wanted}
 use Rattle.pipes_grammar.specs.ExprReading.{is_close, parse_expr}
 use Rattle.pipes_grammar.specs.ListReading.{parse_exprs, parse_pairs, parse_columns, parse_aggs}
 

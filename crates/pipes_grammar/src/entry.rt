@@ -1,7 +1,7 @@
 // The entries of the lists in plans.
 ghost use Rattle.std.specs.Prelude.{◌≡◌};
 ghost use Rattle.pipes_plan.specs.declared.lists.Agg.TheVariants as agg;
-ghost use Rattle.pipes_grammar.specs.Reading.{Gives};
+ghost use Rattle.pipes_reader.specs.Reading.{Gives};
 ghost use Rattle.pipes_grammar.specs.ExprReading as exprs;
 ghost use Rattle.pipes_grammar.specs.ListReading as spec;
 
@@ -9,8 +9,9 @@ use crate::ParseFault;
 use crate::expr::{parse_expr, read_column};
 use crate::list::Entry;
 use crate::start::{AggStart, agg_start};
-use crate::tokens::{behind_equal, no_token, refused};
+use crate::tokens::behind_equal;
 use pipes_plan::{Agg, Expr, Pair};
+use pipes_reader::{ran_out, refused};
 use pipes_token::Token;
 use std::alloc::Global;
 
@@ -61,7 +62,7 @@ fn read_agg(tokens: &[Token]) -> Result<(Agg, &[Token]), ParseFault>
     ensures { Gives (λ x. (x.0, x.1.now)) result (spec.read_agg tokens.now) }
 {
     match tokens {
-        [] => Err(ParseFault::Refused(no_token())),
+        [] => Err(ParseFault::Refused(ran_out())),
         [token, rest @ ..] => match agg_start(&token.kind) {
             AggStart::Count => Ok((Agg::Count, rest)),
             AggStart::Sum => read_sum(rest),

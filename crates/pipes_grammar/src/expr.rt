@@ -3,15 +3,17 @@ ghost use Rattle.std.specs.Prelude.{◌≡◌, IfOk, IfErr, List};
 ghost use Rattle.pipes_token.specs.declared.token.Token.{Token};
 ghost use Rattle.pipes_plan.specs.declared.expr.Expr.{Expr};
 ghost use Rattle.pipes_grammar.specs.Limits.{IsExprText};
-ghost use Rattle.pipes_grammar.specs.Reading.{Front, Gives, done};
+ghost use Rattle.pipes_reader.specs.Reading.{Gives, done};
+ghost use Rattle.pipes_grammar.specs.Reading.{Front};
 ghost use Rattle.pipes_grammar.specs.ExprReading as spec;
 ghost use Rattle.pipes_grammar.specs.Places.{ExprRefused};
 
 use crate::ParseFault;
 use crate::op::{Op, join, op_of};
 use crate::start::{ExprStart, expr_start};
-use crate::tokens::{behind_close, no_token, out_of_range, place_of, refused, too_deep};
+use crate::tokens::{behind_close, out_of_range};
 use pipes_plan::Expr;
+use pipes_reader::{place_of, ran_out, refused, too_deep};
 use pipes_token::{Token, TokenKind};
 use sqlite_items::Boxed;
 use std::alloc::Global;
@@ -31,7 +33,7 @@ pub fn read_column(tokens: &[Token]) -> Result<(u32, &[Token]), ParseFault>
     ensures { Gives (λ x. (x.0, x.1.now)) result (spec.read_column tokens.now) }
 {
     match tokens {
-        [] => Err(ParseFault::Refused(no_token())),
+        [] => Err(ParseFault::Refused(ran_out())),
         [token, rest @ ..] => match token.kind {
             TokenKind::Number(n) => {
                 if n < COLUMNS {
@@ -51,7 +53,7 @@ fn read_negative(tokens: &[Token]) -> Result<(i64, &[Token]), ParseFault>
     ensures { Gives (λ x. (x.0, x.1.now)) result (spec.read_negative tokens.now) }
 {
     match tokens {
-        [] => Err(ParseFault::Refused(no_token())),
+        [] => Err(ParseFault::Refused(ran_out())),
         [token, rest @ ..] => match token.kind {
             TokenKind::Number(n) => {
                 if n < END_OF_INTS {
@@ -72,7 +74,7 @@ fn read_op(tokens: &[Token]) -> Result<(Op, &[Token]), ParseFault>
     ensures { Gives (λ x. (x.0, x.1.now)) result (spec.read_op tokens.now) }
 {
     match tokens {
-        [] => Err(ParseFault::Refused(no_token())),
+        [] => Err(ParseFault::Refused(ran_out())),
         [token, rest @ ..] => match op_of(&token.kind) {
             Some(op) => Ok((op, rest)),
             None => Err(ParseFault::Refused(refused(token))),
@@ -162,7 +164,7 @@ fn expr_within(
         return Err(ParseFault::Refused(too_deep(whole, tokens)));
     }
     match tokens {
-        [] => Err(ParseFault::Refused(no_token())),
+        [] => Err(ParseFault::Refused(ran_out())),
         [token, rest @ ..] => match expr_start(&token.kind) {
             ExprStart::Pair => pair_from(alloc, whole, left - 1, rest),
             ExprStart::Not => not_from(alloc, whole, left - 1, rest),

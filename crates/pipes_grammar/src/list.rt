@@ -1,18 +1,21 @@
 // Lists in brackets.
-ghost use Rattle.std.specs.Prelude.{◌≡◌, ◌≤◌, IfOk, List, Result, length, vec_len};
+ghost use Rattle.std.specs.Prelude.{◌≡◌, ◌≤◌, IfOk, IfErr, List, Result, length, vec_len};
 ghost use Rattle.pipes_token.specs.declared.refusal.Refusal.{Refusal};
 ghost use Rattle.pipes_token.specs.declared.token.Token.{Token};
 ghost use Rattle.pipes_plan.specs.declared.expr.Expr.{Expr};
 ghost use Rattle.pipes_grammar.specs.Limits.{AreExprsText};
-ghost use Rattle.pipes_grammar.specs.Reading.{Front, Gives, done};
+ghost use Rattle.pipes_reader.specs.Reading.{Gives, done};
+ghost use Rattle.pipes_grammar.specs.Reading.{Front};
+ghost use Rattle.pipes_grammar.specs.Places.{ExprsRefused};
 ghost use Rattle.pipes_grammar.specs.ListReading as spec;
 
 use crate::ParseFault;
 use crate::node::parse_exprs;
-use crate::tokens::{behind_open_list, no_token, refused, too_many};
+use crate::tokens::behind_open_list;
 use pipes_plan::Exprs;
+use pipes_reader::{ran_out, refused, too_many};
 use pipes_token::{Sign, Token, TokenKind};
-use pipes_tuple::Listed;
+use pipes_tuple::BoundedList;
 use std::alloc::Global;
 
 // The most entries of a list.
@@ -32,7 +35,7 @@ fn read_goes_on(tokens: &[Token]) -> Result<(bool, &[Token]), ParseFault>
     ensures { Gives (λ x. (x.0, x.1.now)) result (spec.read_goes_on tokens.now) }
 {
     match tokens {
-        [] => Err(ParseFault::Refused(no_token())),
+        [] => Err(ParseFault::Refused(ran_out())),
         [token, rest @ ..] => match token.kind {
             TokenKind::Sign(Sign::Comma) => Ok((true, rest)),
             TokenKind::Sign(Sign::CloseList) => Ok((false, rest)),
@@ -83,11 +86,11 @@ fn entries_within<T: Entry + Drop>(
 fn entries<T: Entry + Drop>(
     alloc: Global,
     tokens: &[Token],
-) -> Result<(Listed<T, MOST_ENTRIES>, &[Token]), ParseFault>
+) -> Result<(BoundedList<T, MOST_ENTRIES>, &[Token]), ParseFault>
     ensures { Gives (λ x. (x.0, x.1.now)) result (spec.entries_within T.entry 32 tokens.now) }
 {
     let (list, rest) = entries_within::<T>(alloc, MOST_ENTRIES, tokens)?;
-    Ok((Listed::new(list).unwrap(), rest))
+    Ok((BoundedList::new(list).unwrap(), rest))
 }
 
 // A list that isn't empty.
@@ -95,7 +98,7 @@ fn entries<T: Entry + Drop>(
 pub fn filled_from<T: Entry + Drop>(
     alloc: Global,
     tokens: &[Token],
-) -> Result<(Listed<T, MOST_ENTRIES>, &[Token]), ParseFault>
+) -> Result<(BoundedList<T, MOST_ENTRIES>, &[Token]), ParseFault>
     ensures { Gives (λ x. (x.0, x.1.now)) result (spec.filled_from T.entry tokens.now) }
 {
     let rest = behind_open_list(tokens)?;
@@ -107,13 +110,16 @@ pub fn filled_from<T: Entry + Drop>(
 fn entries_from<T: Entry + Drop>(
     alloc: Global,
     tokens: &[Token],
-) -> Result<(Listed<T, MOST_ENTRIES>, &[Token]), ParseFault>
+) -> Result<(BoundedList<T, MOST_ENTRIES>, &[Token]), ParseFault>
     ensures { Gives (λ x. (x.0, x.1.now)) result (spec.entries_from T.entry tokens.now) }
 {
     match tokens {
-        [] => Err(ParseFault::Refused(no_token())),
+        [] => Err(ParseFault::Refused(ran_out())),
         [token, rest @ ..] => match token.kind {
-            TokenKind::Sign(Sign::CloseList) => Ok((Listed::new(Vec::new(alloc)).unwrap(), rest)),
+            TokenKind::Sign(Sign::CloseList) => Ok((
+                BoundedList::new(Vec::new(alloc)).unwrap(),
+                rest,
+            )),
             _ => entries(alloc, tokens),
         },
     }
@@ -124,21 +130,23 @@ fn entries_from<T: Entry + Drop>(
 pub fn list_from<T: Entry + Drop>(
     alloc: Global,
     tokens: &[Token],
-) -> Result<(Listed<T, MOST_ENTRIES>, &[Token]), ParseFault>
+) -> Result<(BoundedList<T, MOST_ENTRIES>, &[Token]), ParseFault>
     ensures { Gives (λ x. (x.0, x.1.now)) result (spec.list_from T.entry tokens.now) }
 {
     let rest = behind_open_list(tokens)?;
     entries_from(alloc, rest)
 }
 
-/// The list of expressions at the front, and the tokens behind it.
-#[tactic(auto, using(crate::proofs::EntryReaders::exprs_found))]
+/// The list of expressions that comes first, and the tokens after it.
+#[tactic(auto, using(crate::proofs::EntryReaders::exprs_found, crate::proofs::KitReaders::exprs_refused))]
 pub fn read_exprs(alloc: Global, tokens: &[Token]) -> Result<(Exprs, &[Token]), ParseFault>
     // What is read is spelled by the tokens before the rest.
     ensures found { IfOk result (λ x. Front AreExprsText x.0 tokens.now x.1.now) }
     // What is spelled so is read, unless memory runs out.
     ensures only { (es : List Expr) (rest : List Token) → Front AreExprsText es tokens.now rest
         → Gives (λ x. (x.0, x.1.now)) result (done es rest) }
+    // A refusal comes at the first place at which the tokens can't go on.
+    ensures first { IfErr result (λ fault. ExprsRefused spec.parse_exprs tokens.now fault) }
     // Which refusal it is.
     ensures exact { Gives (λ x. (x.0, x.1.now)) result (spec.parse_exprs tokens.now) }
 {

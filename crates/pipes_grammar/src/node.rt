@@ -1,7 +1,7 @@
 // What stands in the nodes of plans beside their plans, and the nodes made of it.
 ghost use Rattle.std.specs.Prelude.{◌≡◌, IfOk};
 ghost use Rattle.pipes_plan.specs.declared.plan.Plan.TheVariants as plan;
-ghost use Rattle.pipes_grammar.specs.Reading.{Gives};
+ghost use Rattle.pipes_reader.specs.Reading.{Gives};
 ghost use Rattle.pipes_grammar.specs.ListReading as lists;
 ghost use Rattle.pipes_grammar.specs.PlanReading as spec;
 

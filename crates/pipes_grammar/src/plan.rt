@@ -4,16 +4,16 @@ ghost use Rattle.pipes_token.specs.declared.token.Token.{Token};
 ghost use Rattle.pipes_plan.specs.declared.plan.Plan.{Plan};
 ghost use Rattle.pipes_grammar.specs.Grammar as grammar;
 ghost use Rattle.pipes_grammar.specs.Limits.{IsPlanText};
-ghost use Rattle.pipes_grammar.specs.Reading.{Front, Gives, done};
+ghost use Rattle.pipes_reader.specs.Reading.{Gives, done};
+ghost use Rattle.pipes_grammar.specs.Reading.{Front};
 ghost use Rattle.pipes_grammar.specs.PlanReading as spec;
 ghost use Rattle.pipes_grammar.specs.Places.{PlanRefused};
 
 use crate::start::{PlanStart, plan_start};
-use crate::tokens::{
-    behind_close, behind_comma, behind_open, no_token, place_of, refused, too_deep,
-};
+use crate::tokens::{behind_close, behind_comma, behind_open};
 use crate::{ParseFault, node};
 use pipes_plan::Plan;
+use pipes_reader::{place_of, ran_out, refused, too_deep};
 use pipes_token::{Refusal, TextWhy, Token, TokenKind};
 use pipes_tuple::Text;
 use sqlite_items::Boxed;
@@ -30,10 +30,11 @@ fn place_named(names: &[Text], word: &Text) -> Option<usize>
     names.iter().position(|name| *word == *name)
 }
 
-// The number of the first declared source with this name.
-fn source_named(names: &[Text], word: &Text) -> Option<u32>
+/// The number of the first declared source with this name.
+pub fn source_named(names: &[Text], word: &Text) -> Option<u32>
     requires { length names.now < 2 ^ 32 }
-    ensures { result ≡ grammar.source_named names.now word.now }
+    ensures value { result ≡ grammar.source_named names.now word.now }
+    ensures bound { IfSome result (λ number. number < length names.now) }
 {
     match place_named(names, word) {
         Some(place) => Some(place as u32),
@@ -237,7 +238,7 @@ fn plan_within<'a>(
         return Err(ParseFault::Refused(too_deep(whole, tokens)));
     }
     match tokens {
-        [] => Err(ParseFault::Refused(no_token())),
+        [] => Err(ParseFault::Refused(ran_out())),
         [token, rest @ ..] => match plan_start(&token.kind) {
             PlanStart::Source => source_by(alloc, names, token, rest),
             PlanStart::Filter => filter_from(alloc, names, whole, left - 1, rest),

@@ -1,5 +1,5 @@
 -- What a reader of lines has ahead, and what a call of it takes.
-use Rattle.std.specs.Prelude.{◌≡◌, ℕ, ◌+◌, ◌<◌, ◌≤◌, List, [], ◌∷◌, ◌++◌, Bool, true, false, Option, length, ⊤}
+use Rattle.std.specs.Prelude.{◌≡◌, ◌⊎◌, ℕ, ◌+◌, ◌<◌, ◌≤◌, List, [], ◌∷◌, ◌++◌, Bool, true, false, Option, length, ⊤}
 use Rattle.std.specs.Io.KnownBytes.{prepend_known, Keeps, IsAtEnd}
 use Rattle.pipes_line.specs.Bytes.{has_no_feed}
 use Rattle.pipes_line.specs.State.{LineState}
@@ -36,9 +36,21 @@ ReadsLine most before now line next.Long = TakesFront most before now line
 ReadsLine most before now line next.Failed = ⊤
 ReadsLine most before now line next.Memory = ⊤
 
+-- Of a line begun with some bytes, and of the bytes that were read after them: no whole line waits
+-- there, or the answer took the first one, so that a read fails only where none waits.
+abbrev pub TakesWaiting : List ℕ → List ℕ → LineState → NextLine → Type 0
+TakesWaiting line unread now (next.Line true) =
+    (has_no_feed unread ≡ true) ⊎ (line ++ unread ≡ now.line ++ 10 ∷ now.unread)
+TakesWaiting line unread now (next.Line false) = has_no_feed unread ≡ true
+TakesWaiting line unread now next.End = has_no_feed unread ≡ true
+TakesWaiting line unread now next.Failed = has_no_feed unread ≡ true
+TakesWaiting line unread now next.Long = ⊤
+TakesWaiting line unread now next.Memory = ⊤
+
 -- a line that goes on has all that was read, and more was read behind it
 pub record GoesOn (most : ℕ) (old new : LineState) (left now : Option (List ℕ)) : Type 0 where
   pub bytes : Keeps (prepend_known old.line (bytes_ahead old left)) (prepend_known new.line (bytes_ahead new now))
+  pub no_line_waited : has_no_feed old.unread ≡ true
   pub within : has_no_feed new.line ≡ true
   pub short : length new.line ≤ most
   pub all : length new.line ≡ length old.line + length old.unread

@@ -8,8 +8,6 @@ mod quoted;
 mod reader;
 mod record;
 mod split;
-#[cfg(test)]
-mod tests;
 
 pub use reader::{LineReader, NextLine};
 pub use record::{Record, Shape};

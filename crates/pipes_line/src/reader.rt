@@ -3,7 +3,7 @@ ghost use Rattle.std.specs.Prelude.{◌≡◌, ◌≢◌, ◌⊎◌, ◌≤◌, 
 ghost use Rattle.std.specs.Io.KnownBytes.{prepend_known, Consumes, IsAtEnd};
 ghost use Rattle.pipes_edge.specs.Causes.{Rose};
 ghost use Rattle.pipes_line.specs.Bytes.{FeedAt, FindsFeed, has_no_feed};
-ghost use Rattle.pipes_line.specs.Reading.{bytes_ahead, ReadsLine, GoesOn};
+ghost use Rattle.pipes_line.specs.Reading.{bytes_ahead, ReadsLine, GoesOn, TakesWaiting};
 ghost use Rattle.pipes_line.specs.State.{nothing_read, line_in};
 
 use crate::buffer::Buffer;
@@ -66,9 +66,13 @@ impl LineReader {
     }
 
     /// Reads the next line, unless it has more bytes than `most`, its line feed not counted.
+    ///
+    /// The whole lines among the bytes that were read before come first: a failed read is reported
+    /// only where none of them waits.
     pub fn next_line<S: Source>(&mut self, src: &mut S, most: usize) -> NextLine
         requires { most < 2 ^ 62 }
         ensures reads { ReadsLine most (bytes_ahead self.old (S.left src.old)) (bytes_ahead self.new (S.left src.new)) self.new.line result }
+        ensures waiting { TakesWaiting [] self.old.unread self.new result }
         ensures later { S.faults src.old ≤ S.faults src.new }
         ensures cause { result ≡ NextLine.Failed → Rose (S.faults src.old) (S.faults src.new) }
         ensures name { S.name src.new ≡ S.name src.old }
@@ -96,6 +100,7 @@ impl LineReader {
         requires short { length self.old.line ≤ most }
         ensures answer { IfSome result (ReadsLine most (prepend_known self.old.line (bytes_ahead self.old (S.left src.old))) (bytes_ahead self.new (S.left src.new)) self.new.line) }
         ensures going { IfNone result (GoesOn most self.old self.new (S.left src.old) (S.left src.new)) }
+        ensures waiting { IfSome result (TakesWaiting self.old.line self.old.unread self.new) }
         ensures later { S.faults src.old ≤ S.faults src.new }
         ensures cause { result ≡ Some NextLine.Failed → Rose (S.faults src.old) (S.faults src.new) }
         ensures name { S.name src.new ≡ S.name src.old }
@@ -125,6 +130,7 @@ impl LineReader {
         requires within { has_no_feed self.old.line ≡ true }
         ensures answer { (left : Option (List ℕ)) → ReadsLine most (prepend_known self.old.line (bytes_ahead self.old left)) (bytes_ahead self.new left) self.new.line result }
         ensures cause { result ≢ NextLine.Failed }
+        ensures waiting { TakesWaiting self.old.line self.old.unread self.new result }
     {
         if self.extend_line(len).is_err() {
             return NextLine::Memory;

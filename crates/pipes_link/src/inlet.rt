@@ -38,6 +38,20 @@ impl<T: Drop> Inlet<T> {
         if self.consumer.cached_slots() == 0 && self.consumer.slots() == 0 {
             return None;
         }
+        self.take_known()
+    }
+
+    /// Takes the oldest message that is known to wait, unless none is, without a look at the other end. So what is taken was put in
+    /// before the last look.
+    pub fn take_known(&mut self) -> Option<T>
+        ensures took { IfSome result (λ message. taken self.new ≡ taken self.old ++ message ∷ []) }
+        ensures oldest { IfSome result (λ message. known self.old ≡ message ∷ known self.new) }
+        ensures none { IfNone result ((self.new ≡ self.old) × (ready self.old ≡ 0)) }
+        ensures same_link { SameInlet self.old self.new }
+    {
+        if self.consumer.cached_slots() == 0 {
+            return None;
+        }
         Some(self.consumer.pop_known())
     }
 }

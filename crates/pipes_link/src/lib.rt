@@ -7,8 +7,6 @@ ghost use Rattle.pipes_link.specs.Whole.{LacksWaiting, KeepsWhole};
 
 mod inlet;
 mod outlet;
-#[cfg(test)]
-mod tests;
 
 pub use inlet::Inlet;
 pub use outlet::{Full, Outlet};

@@ -15,3 +15,4 @@ pub mod TupleLaws
 pub mod EntryLaws
 pub mod Injective
 pub mod LineLaws
+pub mod Copies

@@ -12,8 +12,6 @@ mod normal;
 mod period;
 mod read;
 mod sweep;
-#[cfg(test)]
-mod tests;
 mod write;
 
 pub use entries::Entries;

@@ -2,9 +2,9 @@
 ghost use Rattle.std.specs.Prelude.{◌≡◌, ◌++◌, take, flat_map, vec_len, OnOk, OnErr};
 ghost use Rattle.pipes_output.specs.NormalText.{period_cmp, period_line};
 
-use crate::write::{all_or_nothing, push_fields, push_numbers};
+use crate::write::{push_fields, push_numbers};
 use pipes_time::Memory;
-use pipes_tuple::Tuple;
+use pipes_tuple::{Tuple, all_or_nothing};
 use std::cmp::Ordering;
 use std::marker::Model;
 
@@ -22,12 +22,13 @@ impl<'a> Model for Period<'a> {
 
     ghost Value = { Seen };
 
-    ghost view = { λ p. record { start = p.start; end = p.end; copies = p.copies; tuple = p.tuple.now } };
+    ghost view = { λ p.
+        record { start = p.start; end = p.end; copies = p.copies; tuple = p.tuple.now } };
 }
 
 impl<'a> Period<'a> {
-    // The period of the tuple from `start` on and before `end`.
-    pub(crate) fn new(start: u64, end: u64, copies: u64, tuple: &'a Tuple) -> Period<'a>
+    /// The period of the tuple from `start` on and before `end`, with so many copies.
+    pub fn new(start: u64, end: u64, copies: u64, tuple: &'a Tuple) -> Period<'a>
         ensures { result ≡ record { start = start; end = end; copies = copies; tuple = tuple.now } }
     {
         Period {

@@ -13,8 +13,6 @@ mod kinds;
 mod lists;
 mod plan;
 mod size;
-#[cfg(test)]
-mod tests;
 
 pub use algebra::answer;
 pub use expr::Expr;

@@ -5,8 +5,6 @@ mod expr;
 mod list;
 mod piece;
 mod plan;
-#[cfg(test)]
-mod tests;
 
 pub use expr::{print_expr, print_exprs};
 pub use plan::print_plan;

@@ -1,8 +1,2 @@
-pub mod Names
-pub mod Grammar
-pub mod Limits
-pub mod Taking
-pub mod Reading
-pub mod Texts
-pub mod Places
-pub mod Printing
+pub mod Queries
+pub mod Scripts

@@ -1,17 +1,9 @@
-//! Queries: sources with their columns and windows, and a plan over them, as values and as texts.
+//! What a query and a script are: sources with their columns and windows, a plan over them, and the
+//! commands by which a run goes.
 #![tactic(auto)]
 
-mod mark;
-mod print;
 mod query;
-mod read;
-mod source;
-mod take;
-#[cfg(test)]
-mod tests;
-mod text;
+mod script;
 
-pub use pipes_token::{ReadFault, TextRefusal, TextWhy};
-pub use print::{print_plan, print_query};
 pub use query::{ColumnNames, Query, SourceDecl, Sources};
-pub use text::read_query;
+pub use script::{Command, Commands, Mode, Names, Script};

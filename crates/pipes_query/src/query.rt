@@ -3,12 +3,12 @@ ghost use Rattle.std.specs.Prelude.{◌≡◌, IfOk, map};
 
 use pipes_plan::{Plan, Schemas};
 use pipes_time::Memory;
-use pipes_tuple::{Listed, Schema, Text};
+use pipes_tuple::{BoundedList, Schema, Text};
 use pipes_window::WindowKind;
 use std::alloc::Global;
 
 /// At most 32 names, one for each column of a source.
-pub type ColumnNames = Listed<Text, 32>;
+pub type ColumnNames = BoundedList<Text, 32>;
 
 /// A source as a query declares it.
 #[derive(Debug, Drop, PartialEq, Eq)]
@@ -21,12 +21,15 @@ pub struct SourceDecl {
     pub names: ColumnNames,
     /// The kinds of its columns, in order.
     pub schema: Schema,
+    /// By how many instants a row may come after rows of a later stamp; 0 where the rows come in
+    /// order.
+    pub slack: u64,
     /// How long its rows are valid.
     pub window: WindowKind,
 }
 
 /// At most 16 sources.
-pub type Sources = Listed<SourceDecl, 16>;
+pub type Sources = BoundedList<SourceDecl, 16>;
 
 /// A plan over sources. A source's number in the plan is its place in the list.
 #[derive(Debug, Drop, PartialEq, Eq)]
@@ -40,7 +43,8 @@ pub struct Query {
 impl Query {
     /// The schemas of the sources, in order: what the plan is checked against.
     pub fn schemas(&self, alloc: Global) -> Result<Schemas, Memory>
-        ensures { IfOk result (λ schemas. schemas ≡ map (λ source. source.schema) self.now.sources) }
+        ensures { IfOk result
+            (λ schemas. schemas ≡ map (λ source. source.schema) self.now.sources) }
     {
         let mut schemas: Vec<Schema> = Vec::new(alloc);
         for source in self.sources.as_slice() {

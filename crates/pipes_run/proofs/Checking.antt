@@ -10,7 +10,7 @@ use Rattle.pipes_words.specs.Command.{Check}
 use Rattle.pipes_tuple.specs.declared.value.Kind.{Kind}
 use Rattle.pipes_plan.specs.PlanKinds.{plan_kinds}
 use Rattle.pipes_query.specs.declared.query.Query.{Query}
-use Rattle.pipes_query.specs.Printing.{query_text}
+use Rattle.pipes_text.specs.Printing.{query_text}
 use Rattle.pipes_meaning.specs.Answer.{schemas_of}
 use Rattle.pipes_run.specs.Outcome.{Counts, RanAfter, kinds_line, checked_text}
 use Rattle.pipes_run.specs.Seen.{io_fault_of}

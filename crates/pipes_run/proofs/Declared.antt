@@ -7,15 +7,16 @@ use Rattle.pipes_window.specs.declared.kind.WindowKind.{WindowKind}
 use Rattle.pipes_window.specs.Windows.{IsWindow}
 use Rattle.pipes_query.specs.declared.query.Query.{Query}
 use Rattle.pipes_query.specs.declared.query.SourceDecl.{SourceDecl}
-use Rattle.pipes_query.specs.Grammar.{IsWindow as Spells, time, count, IsSource, source, AreSources, last, more, IsQuery, query}
+use Rattle.pipes_text.specs.Grammar.{IsWindowText, time, slide, count, IsSource, source, AreSources, last, more, IsQuery, query}
 use Rattle.pipes_run.specs.Seen.{HasText}
 
-window_within : (kind : WindowKind) (ks : List TokenKind) → Spells kind ks → IsWindow kind
-window_within kind ks (time n low high) = (low, high)
+window_within : (kind : WindowKind) (ks : List TokenKind) → IsWindowText kind ks → IsWindow kind
+window_within kind ks (time n is) = is
+window_within kind ks (slide n m wide step) = (wide, step)
 window_within kind ks (count n low high) = (low, high)
 
 source_within : (s : SourceDecl) (ks : List TokenKind) → IsSource s ks → IsWindow s.window
-source_within s ks (source t cs ws columns window) = window_within t.window ws window
+source_within s ks (source t cs ls ws columns slack window) = window_within t.window ws window
 
 sources_within : (sources : List SourceDecl) (ks : List TokenKind) → AreSources sources ks → All (λ (s : SourceDecl). IsWindow s.window) sources
 sources_within sources ks (last s ls h) = All-cons (λ (s : SourceDecl). IsWindow s.window) s [] (source_within s ls h) (All-nil (λ (s : SourceDecl). IsWindow s.window))

@@ -5,8 +5,9 @@ use Rattle.pipes_token.specs.declared.refusal.TextRefusal.{TextRefusal}
 use Rattle.pipes_plan.specs.declared.fault.TypeRefusal.{TypeRefusal}
 use Rattle.pipes_plan.specs.Refusals.{Checks, refusals, first_of}
 use Rattle.pipes_query.specs.declared.query.Query.{Query}
-use Rattle.pipes_query.specs.Texts.{IsFile}
-use Rattle.pipes_query.specs.Places.{IsRefused, too_long, tokens}
+use Rattle.pipes_text.specs.Texts.{IsFileOfQuery}
+use Rattle.pipes_reader.specs.Texts.{too_long, tokens}
+use Rattle.pipes_text.specs.Texts.{IsRefusedQuery}
 use Rattle.pipes_meaning.specs.Answer.{schemas_of}
 use Rattle.pipes_fault.specs.Fault.{Fault, Words, QueryText, QueryType, Unbuilt, Missing, ReadFile, ReadSource, Row, Limit, Write, Memory, fault_seen}
 use Rattle.pipes_run.specs.declared.query.CheckedQuery.{CheckedQuery}
@@ -14,20 +15,20 @@ use Rattle.pipes_fault.specs.declared.Fault.{Fault as Kept}
 use Rattle.pipes_run.specs.Asked.{Holds, Writes}
 use Rattle.pipes_run.specs.Seen.{ReadsFile, GivesQuery, GivesNoOther, IsFree, IsTypeRefusal}
 
-file_whole : (whole bytes : List ℕ) (q : Query) → ReadsUpTo 1048576 whole bytes → IsFile q bytes → IsFile q whole
-file_whole whole bytes q (inl same) h = subst (λ (l : List ℕ). IsFile q l) same h
+file_whole : (whole bytes : List ℕ) (q : Query) → ReadsUpTo 1048576 whole bytes → IsFileOfQuery q bytes → IsFileOfQuery q whole
+file_whole whole bytes q (inl same) h = subst (λ (l : List ℕ). IsFileOfQuery q l) same h
 file_whole whole bytes q (inr longer) h = let short = h.short in absurd (omega (arith, longer.0, short))
 
-whole_file : (whole bytes : List ℕ) (q : Query) → ReadsUpTo 1048576 whole bytes → IsFile q whole → IsFile q bytes
-whole_file whole bytes q (inl same) h = subst (λ (l : List ℕ). IsFile q l) (sym same) h
+whole_file : (whole bytes : List ℕ) (q : Query) → ReadsUpTo 1048576 whole bytes → IsFileOfQuery q whole → IsFileOfQuery q bytes
+whole_file whole bytes q (inl same) h = subst (λ (l : List ℕ). IsFileOfQuery q l) (sym same) h
 whole_file whole bytes q (inr longer) h = let short = h.short in absurd (omega (arith, longer.1, short))
 
-refused_longer : (whole bytes : List ℕ) (r : TextRefusal) → 1048576 < length bytes → 1048576 < length whole → IsRefused bytes r → IsRefused whole r
+refused_longer : (whole bytes : List ℕ) (r : TextRefusal) → 1048576 < length bytes → 1048576 < length whole → IsRefusedQuery bytes r → IsRefusedQuery whole r
 refused_longer whole bytes r more longer (too_long h) = too_long longer
 refused_longer whole bytes r more longer (tokens ts refusal short h k) = absurd (omega (arith, more, short))
 
-refused_whole : (whole bytes : List ℕ) (r : TextRefusal) → ReadsUpTo 1048576 whole bytes → IsRefused bytes r → IsRefused whole r
-refused_whole whole bytes r (inl same) h = subst (λ (l : List ℕ). IsRefused l r) same h
+refused_whole : (whole bytes : List ℕ) (r : TextRefusal) → ReadsUpTo 1048576 whole bytes → IsRefusedQuery bytes r → IsRefusedQuery whole r
+refused_whole whole bytes r (inl same) h = subst (λ (l : List ℕ). IsRefusedQuery l r) same h
 refused_whole whole bytes r (inr longer) h = refused_longer whole bytes r longer.0 longer.1 h
 
 -- what the bytes that were read of a file write is what the file writes
@@ -72,7 +73,7 @@ checks_not q p refusal same checks first =
     let n : None ≡ Some refusal = sym (ap first_of checks.unrefused) ∙ h in
     cc
 
-checked_fault : (bytes : List ℕ) (query : Query) (fault : Fault) → IsFile query bytes → IsTypeRefusal query fault → Writes bytes (Err fault) ⊎ IsFree fault
+checked_fault : (bytes : List ℕ) (query : Query) (fault : Fault) → IsFileOfQuery query bytes → IsTypeRefusal query fault → Writes bytes (Err fault) ⊎ IsFree fault
 checked_fault bytes query (QueryType refusal) file h = inl (query, file, h)
 checked_fault bytes query Memory file h = inr tt
 checked_fault bytes query Words file h = absurd h
@@ -86,10 +87,10 @@ checked_fault bytes query (Limit source line) file h = absurd h
 checked_fault bytes query Write file h = absurd h
 
 -- the query of a text, or why it doesn't check
-pub gives_checked : (bytes : List ℕ) (query : Query) (result : Result CheckedQuery Kept) → IsFile query bytes
+pub gives_checked : (bytes : List ℕ) (query : Query) (result : Result CheckedQuery Kept) → IsFileOfQuery query bytes
     → IfOk result (λ checked. checked.query ≡ query) → IfOk result (λ checked. Checks (schemas_of query) query.plan) → IfErr result (λ e. IsTypeRefusal query (fault_seen e)) → GivesQuery [] (Some bytes) result
 gives_checked bytes query (Ok checked) file same checks refused =
-    (subst (λ (q : Query). IsFile q bytes) (sym same) file, subst (λ (q : Query). Checks (schemas_of q) q.plan) (sym same) checks)
+    (subst (λ (q : Query). IsFileOfQuery q bytes) (sym same) file, subst (λ (q : Query). Checks (schemas_of q) q.plan) (sym same) checks)
 gives_checked bytes query (Err fault) file same checks refused = checked_fault bytes query (fault_seen fault) file refused
 
 free_refusal : (query : Query) (fault : Fault) → Checks (schemas_of query) query.plan → IsTypeRefusal query fault → IsFree fault

@@ -1,5 +1,5 @@
 -- A run over one source, as a run over the sources of its query.
-use Rattle.std.proofs.Common.{◌≡◌, ℕ, List, [], ◌∷◌, length, take, Option, Some, None, Result, Ok, Err, refl, sym, subst, ◌∙◌, inl, arith, IsSome}
+use Rattle.std.proofs.Common.{◌≡◌, ℕ, List, [], ◌∷◌, length, take, Option, Some, None, Result, Ok, Err, refl, sym, subst, ◌∙◌, inl, arith, IsSome, ap}
 use Rattle.std.specs.Option.{option_map}
 use Rattle.std.proofs.lemmas.List.{take_all}
 use Rattle.std.proofs.lemmas.List.Elements.{All-nil, All-cons}
@@ -8,7 +8,8 @@ use Rattle.pipes_edge.specs.Outside.{Names}
 use Rattle.pipes_output.specs.declared.form.Form.{Form}
 use Rattle.pipes_feed.specs.declared.reason.Reason.{Reason}
 use Rattle.pipes_feed.specs.declared.reason.Reason.TheVariants as reason
-use Rattle.pipes_feed.specs.Items.{Items, items_of}
+use Rattle.pipes_feed.specs.Items.{Items, items_of, arrivals_of}
+use Rattle.pipes_feed.proofs.Order.{items-in_order}
 use Rattle.pipes_query.specs.declared.query.Query.{Query}
 use Rattle.pipes_query.specs.declared.query.SourceDecl.{SourceDecl}
 use Rattle.pipes_fault.specs.Fault.{Fault, Words, QueryText, QueryType, Unbuilt, Missing, ReadFile, ReadSource, Row, Limit, Write, Memory}
@@ -59,21 +60,28 @@ kinds_one : (query : Query) (s : SourceDecl) → query.sources ≡ s ∷ [] → 
 kinds_one query s one = rw one refl
 
 -- the items of a query's only source
-items_one : (files : Names) (form : Form) (query : Query) (s : SourceDecl) (bytes : List ℕ) → query.sources ≡ s ∷ [] → files s.file ≡ Some bytes
-    → (items_in files query.sources >>= λ items. Ok (RunOver form query items)) ≡ Ok (RunOver form query (items_of (kinds_of query) bytes ∷ []))
-items_one files form query s bytes one is = rw (one, is) refl
+items_read : (files : Names) (form : Form) (query : Query) (s : SourceDecl) (bytes : List ℕ) → query.sources ≡ s ∷ [] → files s.file ≡ Some bytes
+    → (items_in files query.sources >>= λ items. Ok (RunOver form query items)) ≡ Ok (RunOver form query (items_of (kinds_of query) s.slack bytes ∷ []))
+items_read files form query s bytes one is = rw (one, is) refl
+
+-- where its rows come in order, they are its arrivals
+items_one : (files : Names) (form : Form) (query : Query) (s : SourceDecl) (bytes : List ℕ) → query.sources ≡ s ∷ [] → s.slack ≡ 0 → files s.file ≡ Some bytes
+    → (items_in files query.sources >>= λ items. Ok (RunOver form query items)) ≡ Ok (RunOver form query (arrivals_of (kinds_of query) 0 bytes ∷ []))
+items_one files form query s bytes one none is =
+    items_read files form query s bytes one is
+    ∙ ap (λ (items : Items). Ok (RunOver form query (items ∷ []))) (items-in_order (kinds_of query) s.slack bytes none)
 
 missing_one : (files : Names) (form : Form) (query : Query) (s : SourceDecl) → query.sources ≡ s ∷ [] → files s.file ≡ None
     → (items_in files query.sources >>= λ items. Ok (RunOver form query items)) ≡ Err (Missing s.file)
 missing_one files form query s one is = rw (one, is) refl
 
 -- the source was found, and the query was run over it
-pub over_ran : (files : Names) (form : Form) (query : Query) (s : SourceDecl) (left : Option (List ℕ)) (fault : Option RunFault) (wrote : List ℕ) → query.sources ≡ s ∷ [] → (b : List ℕ) → files s.file ≡ Some b → left ≡ Some b
-    → ((bytes : List ℕ) → left ≡ Some bytes → DoesRun form query (items_of (kinds_of query) bytes) fault wrote)
+pub over_ran : (files : Names) (form : Form) (query : Query) (s : SourceDecl) (left : Option (List ℕ)) (fault : Option RunFault) (wrote : List ℕ) → query.sources ≡ s ∷ [] → s.slack ≡ 0 → (b : List ℕ) → files s.file ≡ Some b → left ≡ Some b
+    → ((bytes : List ℕ) → left ≡ Some bytes → DoesRun form query (arrivals_of (kinds_of query) 0 bytes) fault wrote)
     → DoesAsked (items_in files query.sources >>= λ items. Ok (RunOver form query items)) (option_map (run_fault_of s.name s.file) fault) wrote
-over_ran files form query s left fault wrote one b has tells does =
-    subst (λ (asked : Result Job Fault). DoesAsked asked (option_map (run_fault_of s.name s.file) fault) wrote) (sym (items_one files form query s b one has))
-    (run_does form query s (items_of (kinds_of query) b) fault wrote one (does b tells))
+over_ran files form query s left fault wrote one none b has tells does =
+    subst (λ (asked : Result Job Fault). DoesAsked asked (option_map (run_fault_of s.name s.file) fault) wrote) (sym (items_one files form query s b one none has))
+    (run_does form query s (arrivals_of (kinds_of query) 0 b) fault wrote one (does b tells))
 
 pub over_missing : (files : Names) (form : Form) (query : Query) (s : SourceDecl) → query.sources ≡ s ∷ [] → files s.file ≡ None
     → DoesAsked (items_in files query.sources >>= λ items. Ok (RunOver form query items)) (Some (Missing s.file)) []
@@ -97,10 +105,11 @@ run_quiet name file (Some run.Memory) wrote = tt
 
 -- the source was found, and the query was run over it
 pub over_found : (form : Form) (query : Query) (s : SourceDecl) (told : Option Names) (before now : Counts) (first last left : Option (List ℕ)) (fault : Option RunFault)
-    → query.sources ≡ s ∷ [] → ((files : Names) → told ≡ Some files → IsSome (files s.file) × (left ≡ files s.file))
+    → query.sources ≡ s ∷ [] → s.slack ≡ 0
+    → ((files : Names) → told ≡ Some files → IsSome (files s.file) × (left ≡ files s.file))
     → Ran form query left first last fault → HasCauseOver before now (option_map (run_fault_of s.name s.file) fault)
     → RanOver form query told before now first last (option_map (run_fault_of s.name s.file) fault)
-over_found form query s told before now first last left fault one found ran cause = record {
+over_found form query s told before now first last left fault one order found ran cause = record {
   wrote = ran.wrote;
   appended = ran.appended;
   served = run_is s.name s.file fault;
@@ -112,7 +121,7 @@ over_found form query s told before now first last left fault one found ran caus
     does : (files : Names) (bytes : Option (List ℕ)) → files s.file ≡ bytes → IsSome (files s.file) × (left ≡ files s.file)
         → DoesAsked (items_in files query.sources >>= λ items. Ok (RunOver form query items)) (option_map (run_fault_of s.name s.file) fault) ran.wrote
     does files None is h = let none : IsSome {T = List ℕ} None = subst (λ (o : Option (List ℕ)). IsSome o) is h.0 in cc
-    does files (Some b) is h = over_ran files form query s left fault ran.wrote one b is (h.1 ∙ is) ran.does
+    does files (Some b) is h = over_ran files form query s left fault ran.wrote one order b is (h.1 ∙ is) ran.does
 
 -- a fault from before the run that nobody knows before
 pub over_free : (form : Form) (query : Query) (told : Option Names) (before now : Counts) (written : Option (List ℕ)) (fault : Fault) → IsFree fault → HasCauseOver before now (Some fault)

@@ -8,7 +8,7 @@ use Rattle.pipes_query.specs.declared.query.SourceDecl.{SourceDecl}
 use Rattle.pipes_single.specs.declared.RunFault.{RunFault}
 use Rattle.pipes_single.specs.declared.RunFault.TheVariants as run
 use Rattle.pipes_single.specs.Ran.{HasCauseIn}
-use Rattle.pipes_single.specs.Served.{is_served, is_chain}
+use Rattle.pipes_single.specs.Served.{come_in_order, is_served, is_chain}
 use Rattle.pipes_run.specs.Outcome.{Counts}
 use Rattle.pipes_run.specs.Running.{HasCauseOver, run_fault_of}
 use Rattle.pipes_run.proofs.Causes.{rose_before}
@@ -23,7 +23,19 @@ first_true true b h = refl
 first_true false b h = h
 
 pub only_one : (query : Query) (sources : List SourceDecl) (s : SourceDecl) → is_served query ≡ true → sources ≡ query.sources → s ≡ slice_index_or sources 0 s → query.sources ≡ s ∷ []
-only_one query sources s served same is = one query.sources s (eqb-true (length query.sources) 1 (first_true (length query.sources == 1) (is_chain query.plan) served)) (is ∙ ap (λ (l : List SourceDecl). slice_index_or l 0 s) same)
+only_one query sources s served same is = one query.sources s (eqb-true (length query.sources) 1 (first_true (length query.sources == 1) (come_in_order query.sources && is_chain query.plan) served)) (is ∙ ap (λ (l : List SourceDecl). slice_index_or l 0 s) same)
+
+second_true : (a b : Bool) → (a && b) ≡ true → b ≡ true
+second_true true b h = h
+second_true false b h = absurd (cc)
+
+-- the rows of the only source of a query that is served come in order
+pub in_order_one : (query : Query) (s : SourceDecl) → is_served query ≡ true → query.sources ≡ s ∷ [] → s.slack ≡ 0
+in_order_one query s served only =
+    let both : (come_in_order query.sources && is_chain query.plan) ≡ true = second_true (length query.sources == 1) (come_in_order query.sources && is_chain query.plan) served in
+    let all : come_in_order query.sources ≡ true = first_true (come_in_order query.sources) (is_chain query.plan) both in
+    let here : ((s.slack == 0) && true) ≡ true = ap come_in_order (sym only) ∙ all in
+    eqb-true s.slack 0 (first_true (s.slack == 0) true here)
 
 pub found_told : {S : Type 0} (left : S → Option (List ℕ)) (told : Option Names) (name file : List ℕ) (src : S) → Finds left told name (Ok src) → name ≡ file
     → (files : Names) → told ≡ Some files → IsSome (files file) × (left src ≡ files file)

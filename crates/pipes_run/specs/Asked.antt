@@ -9,8 +9,8 @@ use Rattle.pipes_words.specs.Command.{Command, Run, At, Check}
 use Rattle.pipes_feed.specs.Items.{Items, items_of}
 use Rattle.pipes_query.specs.declared.query.Query.{Query}
 use Rattle.pipes_query.specs.declared.query.SourceDecl.{SourceDecl}
-use Rattle.pipes_query.specs.Texts.{IsFile}
-use Rattle.pipes_query.specs.Places.{IsRefused}
+use Rattle.pipes_text.specs.Texts.{IsFileOfQuery}
+use Rattle.pipes_text.specs.Texts.{IsRefusedQuery}
 use Rattle.pipes_meaning.specs.Answer.{schemas_of}
 use Rattle.pipes_fault.specs.Fault.{Fault, Words, QueryText, QueryType, Unbuilt, Missing, ReadFile, ReadSource, Row, Limit, Write, Memory}
 use Rattle.pipes_single.specs.Served.{is_served}
@@ -24,9 +24,9 @@ pub data Job : Type 0 where
 
 -- The query that the bytes write and that checks, or why there is none: the text is refused, or the first node of its plan that is.
 abbrev pub Writes : List ℕ → Result Query Fault → Type 0
-Writes bytes (Ok query) = IsFile query bytes × Checks (schemas_of query) query.plan
-Writes bytes (Err (QueryText refusal)) = IsRefused bytes refusal
-Writes bytes (Err (QueryType refusal)) = (query : Query) × IsFile query bytes × (first_of (refusals (schemas_of query) query.plan) ≡ Some refusal)
+Writes bytes (Ok query) = IsFileOfQuery query bytes × Checks (schemas_of query) query.plan
+Writes bytes (Err (QueryText refusal)) = IsRefusedQuery bytes refusal
+Writes bytes (Err (QueryType refusal)) = (query : Query) × IsFileOfQuery query bytes × (first_of (refusals (schemas_of query) query.plan) ≡ Some refusal)
 Writes bytes (Err Words) = ⊥
 Writes bytes (Err Unbuilt) = ⊥
 Writes bytes (Err (Missing name)) = ⊥
@@ -56,7 +56,7 @@ items_in files [] = Ok []
 items_in files (s ∷ ss) = do
   bytes ← ok_or (files s.file) (Missing s.file)
   others ← items_in files ss
-  Ok (items_of s.schema bytes ∷ others)
+  Ok (items_of s.schema s.slack bytes ∷ others)
 
 -- the name of the query's file
 abbrev pub query_name : Command → List ℕ

@@ -17,7 +17,7 @@ use Rattle.pipes_feed.specs.declared.reason.Reason.TheVariants as reason
 use Rattle.pipes_feed.specs.Items.{Items}
 use Rattle.pipes_query.specs.declared.query.Query.{Query}
 use Rattle.pipes_query.specs.declared.query.SourceDecl.{SourceDecl}
-use Rattle.pipes_query.specs.Printing.{query_text, kind_text}
+use Rattle.pipes_text.specs.Printing.{query_text, kind_text}
 use Rattle.pipes_meaning.specs.Answer.{answer, schema_of}
 use Rattle.pipes_meaning.specs.Run.{WritesRun, WritesRunFront}
 use Rattle.pipes_at.specs.Lines.{tuple_lines}

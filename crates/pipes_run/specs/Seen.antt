@@ -5,7 +5,7 @@ use Rattle.pipes_buffer.specs.Pieces.{ReadsUpTo}
 use Rattle.pipes_buffer.specs.declared.IoFault.{IoFault}
 use Rattle.pipes_buffer.specs.declared.IoFault.TheVariants as io
 use Rattle.pipes_query.specs.declared.query.Query.{Query}
-use Rattle.pipes_query.specs.Texts.{IsFile}
+use Rattle.pipes_text.specs.Texts.{IsFileOfQuery}
 use Rattle.pipes_fault.specs.declared.Fault.{Fault as Kept}
 use Rattle.pipes_fault.specs.Fault.{Fault, QueryText, QueryType, Missing, ReadFile, Write, Memory, fault_seen}
 use Rattle.pipes_plan.specs.Refusals.{refusals, first_of}
@@ -74,7 +74,7 @@ IsTypeRefusal query fault = ⊥
 
 -- the query is that of a text
 abbrev pub HasText : Query → Type 0
-HasText query = (bytes : List ℕ) × IsFile query bytes
+HasText query = (bytes : List ℕ) × IsFileOfQuery query bytes
 
 -- the fault that writing ended with, if there was one
 abbrev pub io_fault_of : Result (Unit {0}) IoFault → Option Fault

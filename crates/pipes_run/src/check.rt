@@ -4,7 +4,7 @@ ghost use Rattle.std.specs.Io.KnownBytes.{Appends};
 ghost use Rattle.pipes_edge.specs.Causes.{Rose};
 ghost use Rattle.pipes_buffer.specs.Pieces.{AppendsFront};
 ghost use Rattle.pipes_words.specs.Command as command;
-ghost use Rattle.pipes_query.specs.Printing.{query_text};
+ghost use Rattle.pipes_text.specs.Printing.{query_text};
 ghost use Rattle.pipes_run.specs.Outcome.{RanCommand, kinds_line, kind_part};
 ghost use Rattle.pipes_run.specs.Seen.{fault_of};
 
@@ -13,7 +13,7 @@ use crate::query::{CheckedQuery, query_at};
 use pipes_buffer::{BUFFER, IoFault, append, write_all};
 use pipes_edge::{Files, Sink};
 use pipes_fault::Fault;
-use pipes_query::print_query;
+use pipes_text::print_query;
 use pipes_time::Memory;
 use pipes_tuple::Kind;
 use std::alloc::Global;

@@ -11,8 +11,6 @@ mod check;
 mod file;
 mod query;
 mod run;
-#[cfg(test)]
-mod tests;
 
 use answer::answer_query;
 use check::check_query;

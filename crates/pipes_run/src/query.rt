@@ -3,7 +3,7 @@ ghost use Rattle.std.specs.Prelude.{◌≡◌, ◌<◌, ◌≤◌, [], Some, Ok,
 ghost use Rattle.pipes_edge.specs.Outside.{Names, NoneFalls};
 ghost use Rattle.pipes_plan.specs.Refusals.{Checks, IsChecked};
 ghost use Rattle.pipes_query.specs.declared.query.Query.{Query as AQuery};
-ghost use Rattle.pipes_query.specs.Texts.{IsFile};
+ghost use Rattle.pipes_text.specs.Texts.{IsFileOfQuery};
 ghost use Rattle.pipes_meaning.specs.Answer.{schemas_of};
 ghost use Rattle.pipes_fault.specs.Fault.{fault_seen};
 ghost use Rattle.pipes_run.specs.Asked.{Holds, Writes};
@@ -13,7 +13,9 @@ use crate::file::read_file;
 use pipes_edge::Files;
 use pipes_fault::Fault;
 use pipes_plan::CheckFault;
-use pipes_query::{Query, ReadFault, read_query};
+use pipes_query::Query;
+use pipes_text::read_query;
+use pipes_token::ReadFault;
 use pipes_tuple::Schema;
 use std::alloc::Global;
 
@@ -55,7 +57,7 @@ pub(crate) fn query_at<'w, F: Files>(
 // The query that the bytes write, which checks.
 fn query_in(alloc: Global, bytes: &[u8]) -> Result<CheckedQuery, Fault<'static>>
     ensures served { IfErr result (λ e. IsOfText (fault_seen e)) }
-    ensures text { IfOk result (λ checked. IsFile checked.query bytes.now) }
+    ensures text { IfOk result (λ checked. IsFileOfQuery checked.query bytes.now) }
     ensures schema { IfOk result HasSchema }
     ensures gives { GivesQuery [] (Some bytes.now) result }
     ensures only { (query : AQuery) → Writes bytes.now (Ok query) → GivesNoOther query result }

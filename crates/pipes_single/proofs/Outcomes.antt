@@ -9,7 +9,7 @@ use Rattle.pipes_buffer.specs.declared.IoFault.TheVariants as io
 use Rattle.pipes_window.specs.declared.item.Item.{Item}
 use Rattle.pipes_feed.specs.declared.reason.Reason.{Reason}
 use Rattle.pipes_feed.specs.declared.reason.Reason.TheVariants as reason
-use Rattle.pipes_feed.specs.Items.{Items, items_of}
+use Rattle.pipes_feed.specs.Items.{Items, arrivals_of}
 use Rattle.pipes_query.specs.declared.query.Query.{Query}
 use Rattle.pipes_query.specs.declared.query.SourceDecl.{SourceDecl}
 use Rattle.pipes_output.specs.declared.entry.Entry.TheVariants as entry
@@ -45,10 +45,10 @@ front_is all taken rest is = ap (take (length taken)) is ∙ take-append_seam ta
 pub ran_front : (form : Form) (query : Query) (left before now : Option (List ℕ)) → Stopped form query left before now → (f : IoFault) → Ran form query left before now (Some (fault_of_write f))
 ran_front form query left before now s f = by f
   where
-    does : (bytes : List ℕ) → left ≡ Some bytes → (n : ℕ) × WritesRunFront form query (take n (items_of (kinds_of query) bytes).list ∷ []) s.writes.0
+    does : (bytes : List ℕ) → left ≡ Some bytes → (n : ℕ) × WritesRunFront form query (take n (arrivals_of (kinds_of query) 0 bytes).list ∷ []) s.writes.0
     does bytes is =
         let rest = s.front bytes is in
-        (length s.taken, subst (λ (l : List Item). WritesRunFront form query (l ∷ []) s.writes.0) (sym (front_is (items_of (kinds_of query) bytes).list s.taken rest.0 rest.1)) s.writes.2)
+        (length s.taken, subst (λ (l : List Item). WritesRunFront form query (l ∷ []) s.writes.0) (sym (front_is (arrivals_of (kinds_of query) 0 bytes).list s.taken rest.0 rest.1)) s.writes.2)
 
     by : (f : IoFault) → Ran form query left before now (Some (fault_of_write f))
     by io.Failed = record { wrote = s.writes.0; appended = s.writes.1; does = does }
@@ -76,7 +76,7 @@ module _ (form : Form) (query : Query) (left init before now : Option (List ℕ)
   stopped_after r t w = record {
     taken = t.taken;
     writes = w;
-    front = λ bytes is. ends_front (items_of (kinds_of query) bytes) t.taken r (t.ends bytes is);
+    front = λ bytes is. ends_front (arrivals_of (kinds_of query) 0 bytes) t.taken r (t.ends bytes is);
   }
 
   -- all was taken and written
@@ -101,7 +101,7 @@ module _ (form : Form) (query : Query) (left init before now : Option (List ℕ)
     appended = w.1;
     does = λ bytes is.
         let e = t.ends bytes is in
-        (length t.taken, subst (λ (l : List Item). WritesRun form query (l ∷ []) entry.Stopped w.0) (sym (front_is (items_of (kinds_of query) bytes).list t.taken e.0 e.1)) w.2);
+        (length t.taken, subst (λ (l : List Item). WritesRun form query (l ∷ []) entry.Stopped w.0) (sym (front_is (arrivals_of (kinds_of query) 0 bytes).list t.taken e.0 e.1)) w.2);
   }
   ran_all reason.Memory ample t w = absurd (ample refl)
 

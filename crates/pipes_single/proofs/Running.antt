@@ -19,7 +19,7 @@ use Rattle.pipes_window.specs.declared.kind.WindowKind.TheVariants.{Time}
 use Rattle.pipes_window.specs.Items.{StampsRise}
 use Rattle.pipes_window.specs.Windows.{IsWindow, each_row, known}
 use Rattle.pipes_window.specs.Laws.{MakesKnown, MakesRest}
-use Rattle.pipes_window.specs.State.{State, HasTaken, Finishes, new_state}
+use Rattle.pipes_window.specs.State.{State, WindowHasTaken as HasTaken, WindowFinishes as Finishes, new_state}
 use Rattle.pipes_feed.specs.Ahead.{ItemFits}
 use Rattle.pipes_query.specs.declared.query.Query.{Query}
 use Rattle.pipes_query.specs.declared.query.SourceDecl.{SourceDecl}
@@ -28,7 +28,7 @@ use Rattle.pipes_output.specs.declared.form.Form.{Form}
 use Rattle.pipes_meaning.specs.Answer.{schemas_of}
 use Rattle.pipes_single.specs.declared.results.Results.{Results}
 use Rattle.pipes_single.specs.declared.sending.Sending.{Sending}
-use Rattle.pipes_single.specs.Served.{is_served, is_chain, passes_all}
+use Rattle.pipes_single.specs.Served.{come_in_order, is_served, is_chain, passes_all}
 use Rattle.pipes_single.specs.Sent.{passing, sent, sent_all, EarlyText, FrontText, WholeText}
 use Rattle.pipes_single.specs.Kept.{Keeps, StopsEarly, Stops, Writes, form_of}
 use Rattle.pipes_single.specs.Ran.{kinds_of}
@@ -50,7 +50,7 @@ only_one (s ∷ t ∷ rest) h = absurd (omega (arith, h))
 
 -- a query that is run has one source
 pub source_of : (query : Query) → IsRunnable query → (s : SourceDecl) × (query.sources ≡ s ∷ [])
-source_of query h = only_one query.sources (eqb-true (length query.sources) 1 (and_parts (length query.sources == 1) (is_chain query.plan) h.served).0)
+source_of query h = only_one query.sources (eqb-true (length query.sources) 1 (and_parts (length query.sources == 1) (come_in_order query.sources && is_chain query.plan) h.served).0)
 
 pub window_is : (query : Query) (s : SourceDecl) → query.sources ≡ s ∷ [] → s.window ≡ window_of query
 window_is query s is = sym (ap (λ (l : List SourceDecl). unwrap_or (option_map (λ (d : SourceDecl). d.window) (slice_get l 0)) (Time 0)) is)
@@ -76,7 +76,7 @@ run_over query items h rise fit =
       source = s.0;
       run = record {
         sources = s.1;
-        chain = (and_parts (length query.sources == 1) (is_chain query.plan) h.served).1;
+        chain = (and_parts (come_in_order query.sources) (is_chain query.plan) (and_parts (length query.sources == 1) (come_in_order query.sources && is_chain query.plan) h.served).1).1;
         typed = h.typed;
         limits = limits_of query s.0 h s.1;
         rise = rise;
@@ -86,7 +86,7 @@ run_over query items h rise fit =
     }
 
 pub chain_of : (query : Query) → IsRunnable query → is_chain query.plan ≡ true
-chain_of query h = (and_parts (length query.sources == 1) (is_chain query.plan) h.served).1
+chain_of query h = (and_parts (come_in_order query.sources) (is_chain query.plan) (and_parts (length query.sources == 1) (come_in_order query.sources && is_chain query.plan) h.served).1).1
 
 -- the plan takes tuples of these kinds
 pub typed_of : (query : Query) (e : Elem) → IsRunnable query → HasKinds (kinds_of query) e → IsTyped query.plan (map kind_of e.tuple ∷ [])

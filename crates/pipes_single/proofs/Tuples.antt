@@ -11,7 +11,7 @@ use Rattle.pipes_window.specs.declared.item.Item.TheVariants as items
 use Rattle.pipes_window.specs.declared.kind.WindowKind.{WindowKind}
 use Rattle.pipes_window.specs.declared.row.Row.{Row}
 use Rattle.pipes_window.specs.Items.{rows_of}
-use Rattle.pipes_window.specs.Windows.{end_of, span_up_to, whole_span, fixed_span, each_row, spans, known}
+use Rattle.pipes_window.specs.Windows.{span_start, end_of, span_up_to, whole_span, fixed_span, each_row, spans, known}
 use Rattle.pipes_window.specs.Laws.{MakesKnown, MakesRest}
 use Rattle.pipes_feed.specs.Ahead.{ItemFits}
 
@@ -39,33 +39,33 @@ rows_fit kinds (items.Row stamp tuple ∷ rest) all =
     (rows_fit kinds rest (All-others (ItemFits kinds) (items.Row stamp tuple) rest all))
 rows_fit kinds (items.Beat stamp ∷ rest) all = rows_fit kinds rest (All-others (ItemFits kinds) (items.Beat stamp) rest all)
 
-span_fits : (kinds : List Kind) (row : Row) (end : ℕ) → RowFits kinds row → All (ElemFits kinds) (span_up_to row end)
-span_fits kinds row end h = by (nat_lt row.stamp end)
+span_fits : (kinds : List Kind) (kind : WindowKind) (row : Row) (end : ℕ) → RowFits kinds row → All (ElemFits kinds) (span_up_to kind row end)
+span_fits kinds kind row end h = by (nat_lt (span_start kind row.stamp) end)
   where
-    by : (b : Bool) → All (ElemFits kinds) (cond b (record { tuple = row.tuple; span = record { start = row.stamp; end = end } } ∷ []) [])
-    by true = All-cons (ElemFits kinds) (record { tuple = row.tuple; span = record { start = row.stamp; end = end } }) [] h (All-nil (ElemFits kinds))
+    by : (b : Bool) → All (ElemFits kinds) (cond b (record { tuple = row.tuple; span = record { start = span_start kind row.stamp; end = end } } ∷ []) [])
+    by true = All-cons (ElemFits kinds) (record { tuple = row.tuple; span = record { start = span_start kind row.stamp; end = end } }) [] h (All-nil (ElemFits kinds))
     by false = All-nil (ElemFits kinds)
 
-whole_fits : (kinds : List Kind) (row : Row) (end : Option ℕ) → RowFits kinds row → All (ElemFits kinds) (whole_span row end)
-whole_fits kinds row end h = span_fits kinds row (unwrap_or end horizon) h
+whole_fits : (kinds : List Kind) (kind : WindowKind) (row : Row) (end : Option ℕ) → RowFits kinds row → All (ElemFits kinds) (whole_span kind row end)
+whole_fits kinds kind row end h = span_fits kinds kind row (unwrap_or end horizon) h
 
-fixed_fits : (kinds : List Kind) (row : Row) (end : Option ℕ) → RowFits kinds row → All (ElemFits kinds) (fixed_span row end)
-fixed_fits kinds row None h = All-nil (ElemFits kinds)
-fixed_fits kinds row (Some end) h = span_fits kinds row end h
+fixed_fits : (kinds : List Kind) (kind : WindowKind) (row : Row) (end : Option ℕ) → RowFits kinds row → All (ElemFits kinds) (fixed_span kind row end)
+fixed_fits kinds kind row None h = All-nil (ElemFits kinds)
+fixed_fits kinds kind row (Some end) h = span_fits kinds kind row end h
 
-module _ (span_of : Row → Option ℕ → List Elem) (kinds : List Kind) (fits : (row : Row) (end : Option ℕ) → RowFits kinds row → All (ElemFits kinds) (span_of row end)) where
-  each_fits : (kind : WindowKind) (rows : List Row) → All (RowFits kinds) rows → All (ElemFits kinds) (each_row span_of kind rows)
+module _ (give : WindowKind → Row → Option ℕ → List Elem) (kinds : List Kind) (kind : WindowKind) (fits : (row : Row) (end : Option ℕ) → RowFits kinds row → All (ElemFits kinds) (give kind row end)) where
+  each_fits : (rows : List Row) → All (RowFits kinds) rows → All (ElemFits kinds) (each_row give kind rows)
   unfolding each_row
-  each_fits kind [] all = All-nil (ElemFits kinds)
-  each_fits kind (row ∷ later) all =
-      All-append (ElemFits kinds) (span_of row (end_of kind row later)) (each_row span_of kind later)
-      (fits row (end_of kind row later) (All-first (RowFits kinds) row later all)) (each_fits kind later (All-others (RowFits kinds) row later all))
+  each_fits [] all = All-nil (ElemFits kinds)
+  each_fits (row ∷ later) all =
+      All-append (ElemFits kinds) (give kind row (end_of kind row later)) (each_row give kind later)
+      (fits row (end_of kind row later) (All-first (RowFits kinds) row later all)) (each_fits later (All-others (RowFits kinds) row later all))
 
 pub spans_fit : (kinds : List Kind) (kind : WindowKind) (source : List Item) → All (ItemFits kinds) source → All (ElemFits kinds) (spans kind source)
-spans_fit kinds kind source all = each_fits whole_span kinds (whole_fits kinds) kind (rows_of source) (rows_fit kinds source all)
+spans_fit kinds kind source all = each_fits whole_span kinds kind (whole_fits kinds kind) (rows_of source) (rows_fit kinds source all)
 
 pub known_fit : (kinds : List Kind) (kind : WindowKind) (source : List Item) → All (ItemFits kinds) source → All (ElemFits kinds) (known kind source)
-known_fit kinds kind source all = each_fits fixed_span kinds (fixed_fits kinds) kind (rows_of source) (rows_fit kinds source all)
+known_fit kinds kind source all = each_fits fixed_span kinds kind (fixed_fits kinds kind) (rows_of source) (rows_fit kinds source all)
 
 -- what one more item makes known
 pub more_fit : (kinds : List Kind) (kind : WindowKind) (source : List Item) (item : Item) (more : List Elem) → MakesKnown kind source item more

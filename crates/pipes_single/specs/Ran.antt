@@ -7,7 +7,7 @@ use Rattle.pipes_tuple.specs.declared.value.Kind.{Kind}
 use Rattle.pipes_output.specs.declared.entry.Entry.TheVariants.{Ended, Stopped}
 use Rattle.pipes_output.specs.declared.form.Form.{Form}
 use Rattle.pipes_feed.specs.declared.reason.Reason.TheVariants as reason
-use Rattle.pipes_feed.specs.Items.{Items, items_of}
+use Rattle.pipes_feed.specs.Items.{Items, arrivals_of}
 use Rattle.pipes_query.specs.declared.query.Query.{Query}
 use Rattle.pipes_meaning.specs.Run.{WritesRun, WritesRunFront}
 use Rattle.pipes_single.specs.declared.RunFault.{RunFault}
@@ -44,4 +44,4 @@ HasCauseIn src_before src_now out_before out_now (Some Memory) = ⊤
 pub record Ran (form : Form) (query : Query) (left before now : Option (List ℕ)) (fault : Option RunFault) : Type 0 where
   pub wrote : List ℕ
   pub appended : Appends before now wrote
-  pub does : (bytes : List ℕ) → left ≡ Some bytes → DoesRun form query (items_of (kinds_of query) bytes) fault wrote
+  pub does : (bytes : List ℕ) → left ≡ Some bytes → DoesRun form query (arrivals_of (kinds_of query) 0 bytes) fault wrote

@@ -1,9 +1,11 @@
 -- Queries of one source under filters.
-use Rattle.std.specs.Prelude.{ℕ, Bool, true, false, ◌&&◌, ◌==◌, length}
+use Rattle.std.specs.Prelude.{ℕ, List, Bool, true, false, ◌&&◌, ◌==◌, length}
 use Rattle.pipes_plan.specs.declared.plan.Plan.{Plan, fold-Plan}
 use Rattle.pipes_plan.specs.declared.plan.Plan.TheOpen.{Plan-F, Source, Filter, Map, Union, Join, Distinct, Group, Minus}
 use Rattle.pipes_plan.specs.ExprValue.{Row, passes}
+use Rattle.std.specs.List.{list_all}
 use Rattle.pipes_query.specs.declared.query.Query.{Query}
+use Rattle.pipes_query.specs.declared.query.SourceDecl.{SourceDecl}
 
 abbrev pub chain_step : Plan-F Bool → Bool
 chain_step (Source i) = true
@@ -33,6 +35,11 @@ passes_step (Minus a b) row = false
 abbrev pub passes_all : Plan → Row → Bool
 passes_all = fold-Plan (Row → Bool) passes_step
 
--- one source, and a plan of filters over it
+-- no source's rows come late
+abbrev pub come_in_order : List SourceDecl → Bool
+come_in_order sources = list_all (λ s. s.slack == 0) sources
+
+-- one source, whose rows come in order, and a plan of filters over it
 abbrev pub is_served : Query → Bool
-is_served query = (length query.sources == 1) && is_chain query.plan
+is_served query =
+    (length query.sources == 1) && (come_in_order query.sources && is_chain query.plan)

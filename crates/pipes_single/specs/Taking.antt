@@ -11,13 +11,14 @@ use Rattle.pipes_plan.specs.PlanKinds.{IsTyped}
 use Rattle.pipes_window.specs.declared.item.Item.{Item}
 use Rattle.pipes_window.specs.declared.kind.WindowKind.{WindowKind}
 use Rattle.pipes_window.specs.declared.kind.WindowKind.TheVariants.{Time}
-use Rattle.pipes_window.specs.Items.{stamp_of}
+use Rattle.pipes_window.specs.Items.{item_stamp as stamp_of}
 use Rattle.pipes_window.specs.Windows.{IsWindow}
 use Rattle.pipes_window.specs.Laws.{MakesKnown}
-use Rattle.pipes_window.specs.State.{State, HasTaken}
+use Rattle.pipes_window.specs.State.{State, WindowHasTaken as HasTaken}
 use Rattle.pipes_feed.specs.declared.reason.Reason.{Reason}
 use Rattle.pipes_feed.specs.declared.reason.Reason.TheVariants as reason
-use Rattle.pipes_feed.specs.Items.{Items, items_of}
+use Rattle.pipes_feed.specs.Items.{Items, arrivals_of}
+use Rattle.pipes_feed.specs.Reached.{floor}
 use Rattle.pipes_feed.specs.State.{ReaderState}
 use Rattle.pipes_feed.specs.Ahead.{ahead, ItemFits}
 use Rattle.pipes_query.specs.declared.query.Query.{Query}
@@ -97,10 +98,11 @@ IsAhead whole taken (Some rest) = (whole.list ≡ taken ++ rest.list) × (whole.
 pub record GoesOn (query : Query) (left at init now : Option (List ℕ)) (reader : ReaderState) (sending : Sending) : Type 0 where
   pub taken : List Item
   pub sends : Sends query init now sending taken
-  pub last : sending.window.last ≡ reader.behind.last
+  pub last : sending.window.last ≡ floor 0 reader.reached
   pub going : reader.ended ≡ None
   pub kinds : reader.kinds ≡ kinds_of query
-  pub source : (bytes : List ℕ) → left ≡ Some bytes → IsAhead (items_of (kinds_of query) bytes) taken (ahead reader at)
+  pub slack : reader.slack ≡ 0
+  pub source : (bytes : List ℕ) → left ≡ Some bytes → IsAhead (arrivals_of (kinds_of query) 0 bytes) taken (ahead reader at)
 
 -- the items ended so, or more of them lie ahead of a failed read and of want of memory
 abbrev pub EndsSo : Items → List Item → Reason → Type 0
@@ -114,13 +116,13 @@ EndsSo items taken reason.Memory = (rest : List Item) × (items.list ≡ taken +
 pub record TakenAll (query : Query) (left init now : Option (List ℕ)) (sending : Sending) (reason : Reason) : Type 0 where
   pub taken : List Item
   pub sends : Sends query init now sending taken
-  pub ends : (bytes : List ℕ) → left ≡ Some bytes → EndsSo (items_of (kinds_of query) bytes) taken reason
+  pub ends : (bytes : List ℕ) → left ≡ Some bytes → EndsSo (arrivals_of (kinds_of query) 0 bytes) taken reason
 
 -- it was stopped on the way
 pub record Stopped (form : Form) (query : Query) (left init now : Option (List ℕ)) : Type 0 where
   pub taken : List Item
   pub writes : WritesFront form query init now taken
-  pub front : (bytes : List ℕ) → left ≡ Some bytes → (rest : List Item) × ((items_of (kinds_of query) bytes).list ≡ taken ++ rest)
+  pub front : (bytes : List ℕ) → left ≡ Some bytes → (rest : List Item) × ((arrivals_of (kinds_of query) 0 bytes).list ≡ taken ++ rest)
 
 -- the fault of a write
 abbrev pub fault_of_write : IoFault → RunFault

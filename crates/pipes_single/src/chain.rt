@@ -6,14 +6,21 @@ ghost use Rattle.pipes_single.specs.Served as served;
 ghost use Rattle.pipes_single.specs.Served.{passes_all, is_served};
 
 use pipes_plan::Plan;
-use pipes_query::Query;
+use pipes_query::{Query, SourceDecl};
 use pipes_tuple::Tuple;
 
-/// Whether the query has one source, and a plan of filters over it.
+/// Whether the query has one source, whose rows come in order, and a plan of filters over it.
 pub fn serves(query: &Query) -> bool
     ensures { result ≡ is_served query.now }
 {
-    query.sources.as_slice().len() == 1 && is_chain(&query.plan)
+    let sources = query.sources.as_slice();
+    sources.len() == 1 && come_in_order(sources) && is_chain(&query.plan)
+}
+
+fn come_in_order(sources: &[SourceDecl]) -> bool
+    ensures { result ≡ served.come_in_order sources.now }
+{
+    sources.iter().all(|source| source.slack == 0)
 }
 
 fn is_chain(plan: &Plan) -> bool

@@ -70,7 +70,7 @@ fn run_over<S: Source, K: Sink>(
     out: &mut K,
 ) -> Result<(), RunFault>
     requires runnable { IsRunnable query.now }
-    requires fresh { reader.old ≡ fresh_reader (kinds_of query.now) }
+    requires fresh { reader.old ≡ fresh_reader (kinds_of query.now) 0 }
     requires start { sending.window.last ≡ 0 }
     requires sends { Sends query.now (K.written out.old) (K.written out.old) sending [] }
     ensures ran { Ran (form_of sending.results) query.now (S.left src.old) (K.written out.old) (K.written out.new) (fault_in result) }
@@ -104,7 +104,7 @@ pub fn run<S: Source, K: Sink>(
     ensures found_at { S.found_at src.new ≡ S.found_at src.old }
 {
     let source = only_source(query);
-    match ItemReader::new(alloc, source) {
+    match ItemReader::new(alloc, &source.schema, source.slack) {
         Ok(mut reader) => {
             let sending = Sending::new(alloc, form, source);
             run_over(alloc, query, &mut reader, sending, src, out)
@@ -112,6 +112,3 @@ pub fn run<S: Source, K: Sink>(
         Err(Memory) => Err(RunFault::Memory),
     }
 }
-
-#[cfg(test)]
-mod tests;

@@ -6,10 +6,10 @@ ghost use Rattle.pipes_tuple.specs.Kinds.{kind_of};
 ghost use Rattle.pipes_plan.specs.PlanKinds.{IsTyped};
 ghost use Rattle.pipes_stream.specs.declared.Elem.{Elem};
 ghost use Rattle.pipes_window.specs.declared.item.Item.{Item};
-ghost use Rattle.pipes_window.specs.Items.{stamp_of};
+ghost use Rattle.pipes_window.specs.Items.{item_stamp as stamp_of};
 ghost use Rattle.pipes_window.specs.Windows.{IsWindow};
 ghost use Rattle.pipes_window.specs.State as state;
-ghost use Rattle.pipes_window.specs.State.{HasTaken};
+ghost use Rattle.pipes_window.specs.State.{WindowHasTaken as HasTaken};
 ghost use Rattle.pipes_feed.specs.Ahead.{ItemFits};
 ghost use Rattle.pipes_single.specs.Served.{is_chain};
 ghost use Rattle.pipes_single.specs.Sent.{passing};
@@ -42,7 +42,7 @@ fn take_item(window: &mut Window, item: Item, found: &mut Vec<Elem>) -> Result<(
     requires order { window.old.last ≤ stamp_of item }
     requires below { stamp_of item < HORIZON }
     requires goes_on { window.old.ended ≡ false }
-    ensures { OnOk result (state.Takes window.old window.new item found.old.items found.new.items) }
+    ensures { OnOk result (state.WindowTakes window.old window.new item found.old.items found.new.items) }
 {
     match item {
         Item::Row(stamp, tuple) => window.take(stamp, tuple, found),

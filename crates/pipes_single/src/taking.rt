@@ -21,7 +21,7 @@ pub(crate) fn take_all<S: Source, K: Sink>(
     out: &mut K,
 ) -> Result<Reason, IoFault>
     requires runnable { IsRunnable query.now }
-    requires fresh { reader.old ≡ fresh_reader (kinds_of query.now) }
+    requires fresh { reader.old ≡ fresh_reader (kinds_of query.now) 0 }
     requires start { sending.old.window.last ≡ 0 }
     requires sends { Sends query.now (K.written out.old) (K.written out.old) sending.old [] }
     ensures form { form_of sending.new.results ≡ form_of sending.old.results }

@@ -1,1 +1,4 @@
 pub mod Snapshot
+pub mod Progress
+pub mod Lists
+pub mod Lawful

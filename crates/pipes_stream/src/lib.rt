@@ -1,10 +1,18 @@
-//! Streams: elements, which are tuples with their validity.
+//! Streams: elements, which are tuples with their validity; lists of messages; and what an operator
+//! over them is.
 #![tactic(auto)]
 
 ghost use Rattle.std.specs.Prelude.{◌≡◌, IfOk};
 
+mod message;
+mod operator;
+mod watch;
+
+pub use message::Message;
+pub use operator::Operator;
 use pipes_time::{Interval, Memory};
 use pipes_tuple::Tuple;
+pub use watch::Watch;
 
 /// An element of a stream: a tuple and the interval in which it is valid.
 #[derive(Debug, PartialEq, Eq, Drop)]
@@ -24,23 +32,5 @@ impl Elem {
             tuple: self.tuple.copy()?,
             span: self.span,
         })
-    }
-}
-
-#[cfg(test)]
-mod tests {
-    use super::*;
-    use pipes_tuple::Value;
-    use std::test::Fail;
-
-    #[test]
-    fn a_copy_is_equal(rt: HostRuntime) -> Result<(), Fail> {
-        let mut values = Vec::new(rt.alloc());
-        values.push(Value::Int(7))?;
-        let tuple = Tuple::new(values).ok_or("no tuple")?;
-        let span = Interval::new(3, 9).ok_or("no interval")?;
-        let elem = Elem { tuple, span };
-        assert!(rt; elem.copy()? == elem);
-        Ok(())
     }
 }

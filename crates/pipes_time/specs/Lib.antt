@@ -1,1 +1,3 @@
 pub mod Interval
+pub mod Slides
+pub mod Rising

@@ -1,142 +1,76 @@
-//! Instants, and half-open intervals of them.
+//! Instants, half-open intervals of them, and the intervals that windows give.
 #![tactic(auto)]
 
-ghost use Rattle.std.specs.Prelude.{◌≡◌, ℕ, ◌+◌, ◌<◌, ◌≤◌, min, IfSome, IsSome, IsTrue, ◌↔◌};
-ghost use Rattle.pipes_time.specs.Interval.{Holds, IsInterval, IsPart};
+ghost use Rattle.std.specs.Prelude.{◌≡◌, ◌+◌, ◌<◌, IfSome, IsSome, IsTrue, ◌↔◌};
+ghost use Rattle.pipes_time.specs.Interval.{IsPart};
+ghost use Rattle.pipes_time.specs.Slides as slides;
+ghost use Rattle.pipes_time.specs.Slides.{HasSlideSpan, IsDuration, IsInSlide, slide_interval, time_interval};
 
+mod interval;
 mod memory;
 
+pub use interval::Interval;
 pub use memory::Memory;
-use std::marker::Model;
 
-/// The number of instants. An instant is a whole number below it; stamps in milliseconds since 1970 fit.
+/// The number of instants. An instant is a whole number below it; stamps in milliseconds since
+/// 1970 fit.
 pub const HORIZON: u64 = 1_000_000_000_000_000;
 
-/// The heartbeat of a stream that has ended: above every instant and above every end of an interval.
+/// The heartbeat of a stream that has ended: above every instant and above every end of an
+/// interval.
 pub const CLOSED: u64 = HORIZON + 1;
 
-/// The instants from `start` on and before `end`: never empty, and never past [`HORIZON`].
-#[derive(Clone, Copy, Debug, PartialEq, Eq)]
-pub struct Interval {
-    start: u64,
-    end: u64,
+/// Whether a window may be so many instants long: 1 to [`HORIZON`].
+pub fn is_duration(size: u64) -> bool
+    ensures { IsTrue result ↔ IsDuration size }
+{
+    1 <= size && size <= HORIZON
 }
 
-impl Model for Interval {
-    ghost use Rattle.pipes_time.specs.Interval.{Span, IsInterval};
-
-    ghost Value = { Span };
-
-    ghost view = { λ i. record { start = i.start; end = i.end } };
-
-    ghost inverse = { λ v. record { start = v.start; end = v.end } };
-
-    ghost invariant = { λ i. IsInterval i.start i.end };
-}
-
-impl Interval {
-    /// The interval with these ends, unless it would be empty or reach past [`HORIZON`].
-    pub fn new(start: u64, end: u64) -> Option<Interval>
-        ensures exact { IsSome result ↔ IsInterval start end }
-        ensures value { IfSome result (λ i. i ≡ record { start = start; end = end }) }
-    {
-        if start < end && end <= HORIZON {
-            Some(Interval { start, end })
-        } else {
-            None
-        }
-    }
-
-    /// The first instant.
-    pub fn start(&self) -> u64
-        ensures value { result ≡ self.now.start }
-        ensures below_end { result < self.now.end }
-    {
-        self.start
-    }
-
-    /// The instant after the last, at most [`HORIZON`].
-    pub fn end(&self) -> u64
-        ensures value { result ≡ self.now.end }
-        ensures above_start { self.now.start < result }
-        ensures bound { result ≤ HORIZON }
-    {
-        self.end
-    }
-
-    /// Whether the instant lies in the interval.
-    pub fn holds(&self, t: u64) -> bool
-        ensures { IsTrue result ↔ Holds self.now t }
-    {
-        self.start <= t && t < self.end
-    }
-
-    /// The instants of both. Intervals that only touch have none.
-    pub fn overlap(&self, other: &Interval) -> Option<Interval>
-        ensures { IsPart result (λ t. Holds self.now t × Holds other.now t) }
-    {
-        Interval::new(self.start.max(other.start), self.end.min(other.end))
-    }
-
-    /// The instants before `t`.
-    pub fn below(&self, t: u64) -> Option<Interval>
-        ensures { IsPart result (λ u. Holds self.now u × (u < t)) }
-    {
-        Interval::new(self.start, self.end.min(t))
-    }
-
-    /// The instants from `t` on.
-    pub fn above(&self, t: u64) -> Option<Interval>
-        ensures { IsPart result (λ u. Holds self.now u × (t ≤ u)) }
-    {
-        Interval::new(self.start.max(t), self.end)
-    }
-}
-
-/// The interval that a time window of this size gives a row with this stamp, clipped at [`HORIZON`].
+/// The interval that a time window of this size gives a row with this stamp, clipped at
+/// [`HORIZON`].
 pub fn time_span(stamp: u64, size: u64) -> Option<Interval>
     ensures exact { IsSome result ↔ ((stamp < HORIZON) × (0 < size)) }
-    ensures value { IfSome result (λ i. i ≡ record { start = stamp; end = min (stamp + size) HORIZON }) }
+    ensures value { IfSome result (λ span. span ≡ time_interval stamp size) }
 {
     Interval::new(stamp, stamp.saturating_add(size).min(HORIZON))
 }
 
-#[cfg(test)]
-mod tests {
-    use super::*;
-    use std::test::Fail;
-
-    #[test]
-    fn parts_of_intervals(rt: HostRuntime) -> Result<(), Fail> {
-        assert!(rt; Interval::new(3, 3).is_none());
-        assert!(rt; Interval::new(3, HORIZON + 1).is_none());
-        let span = Interval::new(3, 9).ok_or("no interval")?;
-        assert_eq!(rt; (span.start(), span.end()), (3, 9));
-        assert_eq!(rt;
-            (span.holds(2), span.holds(3), span.holds(9)),
-            (false, true, false)
-        );
-        assert_eq!(rt; span.below(5), Interval::new(3, 5));
-        assert_eq!(rt; span.above(5), Interval::new(5, 9));
-        assert_eq!(rt; span.above(9), None);
-        let early = Interval::new(3, 5).ok_or("no interval")?;
-        let late = Interval::new(5, 9).ok_or("no interval")?;
-        assert_eq!(rt; early.overlap(&late), None);
-        assert_eq!(rt; span.overlap(&late), Some(late));
-        Ok(())
+/// The last multiple of the slide at or before an instant, 0 where the slide is 0.
+pub fn last_slide(t: u64, slide: u64) -> u64
+    ensures { result ≡ slides.last_slide slide t }
+{
+    match t.checked_div(slide) {
+        Some(turns) => turns * slide,
+        None => 0,
     }
+}
 
-    #[test]
-    fn spans_of_time_windows(rt: HostRuntime) -> Result<(), Fail> {
-        assert_eq!(rt; time_span(0, 3), Interval::new(0, 3));
-        assert_eq!(rt;
-            time_span(HORIZON - 1, 10),
-            Interval::new(HORIZON - 1, HORIZON)
-        );
-        assert_eq!(rt; time_span(5, u64::MAX), Interval::new(5, HORIZON));
-        assert_eq!(rt; time_span(HORIZON, 1), None);
-        assert_eq!(rt; time_span(5, 0), None);
-        assert_eq!(rt; CLOSED, 1_000_000_000_000_001);
-        Ok(())
+/// The first multiple of the slide at or after an instant.
+#[tactic(auto, using(crate::proofs::Slides::slide_bound))]
+pub fn next_slide(t: u64, slide: u64) -> u64
+    requires below { t < HORIZON + HORIZON }
+    requires slide { IsDuration slide }
+    ensures { result ≡ slides.next_slide slide t }
+{
+    t.div_ceil(slide) * slide
+}
+
+/// The interval that a sliding window of this size gives a row with this stamp: from the first
+/// multiple of the slide at or after the stamp up to the first at or after `stamp + size`, clipped
+/// at [`HORIZON`]. There is none where the stamp is no instant, a size or slide is not 1 to
+/// [`HORIZON`], or the interval would be empty.
+pub fn slide_span(stamp: u64, size: u64, slide: u64) -> Option<Interval>
+    ensures exact { IsSome result ↔ HasSlideSpan stamp size slide }
+    ensures value { IfSome result (λ span. span ≡ slide_interval stamp size slide) }
+
+    // At each instant it holds the row where the window's last move has it.
+    ensures instants { IsDuration size → IsDuration slide
+        → IsPart result (IsInSlide stamp size slide) }
+{
+    if stamp >= HORIZON || !is_duration(size) || !is_duration(slide) {
+        return None;
     }
+    let end = next_slide(stamp + size, slide).min(HORIZON);
+    Interval::new(next_slide(stamp, slide), end)
 }

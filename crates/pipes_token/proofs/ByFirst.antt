@@ -30,7 +30,9 @@ keyword_again : (k : AKeyword) → keyword_of (keyword_text k) ≡ Some k
 unfolding keyword_of
 keyword_again key.Source = refl
 keyword_again key.From = refl
+keyword_again key.Slack = refl
 keyword_again key.Window = refl
+keyword_again key.Slide = refl
 keyword_again key.Time = refl
 keyword_again key.Count = refl
 keyword_again key.Int = refl
@@ -72,7 +74,9 @@ same_keyword k l e =
 pub keyword_is_word : (k : AKeyword) → (is_word (keyword_text k) && nat_le (length (keyword_text k)) 64) ≡ true
 keyword_is_word key.Source = refl
 keyword_is_word key.From = refl
+keyword_is_word key.Slack = refl
 keyword_is_word key.Window = refl
+keyword_is_word key.Slide = refl
 keyword_is_word key.Time = refl
 keyword_is_word key.Count = refl
 keyword_is_word key.Int = refl

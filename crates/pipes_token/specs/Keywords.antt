@@ -1,12 +1,14 @@
 -- The keywords, and how each is spelled.
 use Rattle.std.specs.Prelude.{ℕ, List, codes}
 use Rattle.pipes_token.specs.declared.keyword.Keyword.{Keyword}
-use Rattle.pipes_token.specs.declared.keyword.Keyword.TheVariants.{Source, From, Window, Time, Count, Int, Text, Flag, Plan, Filter, Map, Union, Join, Distinct, Group, Minus, Sum, Min, Max, Avg, True, False, And, Or, Not, Step, Back, At, Top, With, Feed, Rest, Await, Migrate, Drain}
+use Rattle.pipes_token.specs.declared.keyword.Keyword.TheVariants.{Source, From, Slack, Window, Slide, Time, Count, Int, Text, Flag, Plan, Filter, Map, Union, Join, Distinct, Group, Minus, Sum, Min, Max, Avg, True, False, And, Or, Not, Step, Back, At, Top, With, Feed, Rest, Await, Migrate, Drain}
 
 abbrev pub keyword_text : Keyword → List ℕ
 keyword_text Source = codes "source"
 keyword_text From = codes "from"
+keyword_text Slack = codes "slack"
 keyword_text Window = codes "window"
+keyword_text Slide = codes "slide"
 keyword_text Time = codes "time"
 keyword_text Count = codes "count"
 keyword_text Int = codes "int"

@@ -10,8 +10,12 @@ pub enum Keyword {
     Source,
     /// `from`
     From,
+    /// `slack`
+    Slack,
     /// `window`
     Window,
+    /// `slide`
+    Slide,
     /// `time`
     Time,
     /// `count`
@@ -86,7 +90,9 @@ impl Keyword {
         match self {
             Keyword::Source => "source",
             Keyword::From => "from",
+            Keyword::Slack => "slack",
             Keyword::Window => "window",
+            Keyword::Slide => "slide",
             Keyword::Time => "time",
             Keyword::Count => "count",
             Keyword::Int => "int",
@@ -124,10 +130,12 @@ impl Keyword {
 }
 
 /// All keywords.
-pub const KEYWORDS: [Keyword; 35] = [
+pub const KEYWORDS: [Keyword; 37] = [
     Keyword::Source,
     Keyword::From,
+    Keyword::Slack,
     Keyword::Window,
+    Keyword::Slide,
     Keyword::Time,
     Keyword::Count,
     Keyword::Int,

@@ -9,8 +9,6 @@ mod place;
 mod quoted;
 mod read;
 mod refusal;
-#[cfg(test)]
-mod tests;
 mod token;
 
 pub use keyword::{KEYWORDS, Keyword};

@@ -1,40 +1,65 @@
--- The steps of a loop that spells a text out: what is written, and what of the bytes so far waits to be written.
-use Rattle.std.proofs.Common.{◌≡◌, ℕ, ◌+◌, ◌-◌, ◌<◌, ◌≤◌, List, [], ◌∷◌, ◌++◌, length, get_or, take, drop, sym, ap, ◌∙◌, arith, append_assoc, append-nil, length-take}
-use Rattle.std.proofs.Math.ListN.{drop_of_length-le}
-use Rattle.std.proofs.lemmas.List.{take_more, drop-append-le, drop-take}
-use Rattle.std.proofs.lemmas.List.Concat.{flat_map-append}
-use Rattle.pipes_tuple.specs.Texts.{escaped, escaped_byte}
+-- Texts between quotes: the first byte that is escaped, what is before it and what is after it.
+use Rattle.std.proofs.Common.{◌≡◌, ℕ, suc, ◌+◌, List, [], ◌∷◌, ◌++◌, take, drop, Option, Some, None, Bool, true, false, cond, get_or, refl, sym, ◌∙◌, ap, subst, arith, append_assoc, ◌||◌, ◌==◌}
+use Rattle.std.specs.List.{position_from}
+use Rattle.pipes_tuple.specs.Texts.{is_escaped, escaped_byte, escaped}
 
--- one more byte of a text, spelled out
-pub escaped-take : (text : List ℕ) (i : ℕ) → i < length text → escaped (take (i + 1) text) ≡ escaped (take i text) ++ escaped_byte (get_or text i 0)
-escaped-take text i h =
-    ap escaped (take_more text i 0 h)
-    ∙ flat_map-append escaped_byte (take i text) (get_or text i 0 ∷ [])
-    ∙ ap (λ (bytes : List ℕ). escaped (take i text) ++ bytes) (append-nil (escaped_byte (get_or text i 0)))
+-- a byte that stands for itself
+plain : (b : ℕ) → is_escaped b ≡ false → escaped_byte b ≡ b ∷ []
+plain b h = go (b == 92) (b == 34) (b == 10) (b == 13) h
+  where
+    go : (p q r s : Bool) → (p || q || r || s) ≡ false
+        → cond p (92 ∷ 92 ∷ [])
+        (cond q (92 ∷ 34 ∷ []) (cond r (92 ∷ 110 ∷ []) (cond s (92 ∷ 114 ∷ []) (b ∷ [])))) ≡ b ∷ []
+    go false false false false h = refl
+    go false false false true h = cc
+    go false false true s h = cc
+    go false true r s h = cc
+    go true q r s h = cc
 
--- a byte that stands for itself waits to be written
-pub waits : (before out text : List ℕ) (from i : ℕ) → i < length text → from ≤ i → escaped_byte (get_or text i 0) ≡ get_or text i 0 ∷ [] → out ++ drop from (take i text) ≡ before ++ escaped (take i text) → out ++ drop from (take (i + 1) text) ≡ before ++ escaped (take (i + 1) text)
-waits before out text from i h behind plain written =
-    let byte = get_or text i 0 in
-    let long : from ≤ length (take i text) = omega (arith, length-take i text) in
-    ap (λ (bytes : List ℕ). out ++ drop from bytes) (take_more text i 0 h)
-    ∙ ap (λ (bytes : List ℕ). out ++ bytes) (drop-append-le from (take i text) (byte ∷ []) long)
-    ∙ sym (append_assoc out (drop from (take i text)) (byte ∷ []))
-    ∙ ap (λ (bytes : List ℕ). bytes ++ (byte ∷ [])) written
-    ∙ append_assoc before (escaped (take i text)) (byte ∷ [])
-    ∙ ap (λ (bytes : List ℕ). before ++ (escaped (take i text) ++ bytes)) (sym plain)
-    ∙ ap (λ (bytes : List ℕ). before ++ bytes) (sym (escaped-take text i h))
+-- a text without a byte to escape is as it is
+pub escaped-plain : (bs : List ℕ) (k : ℕ) → None ≡ position_from is_escaped k bs → escaped bs ≡ bs
+escaped-plain [] k h = refl
+escaped-plain (b ∷ bs) k h = go (is_escaped b) refl (λ e. escaped-plain bs (k + 1) e) h
+  where
+    go : (t : Bool) → is_escaped b ≡ t
+        → (None ≡ position_from is_escaped (k + 1) bs → escaped bs ≡ bs)
+        → None ≡ cond t (Some k) (position_from is_escaped (k + 1) bs)
+        → escaped_byte b ++ escaped bs ≡ b ∷ bs
+    go true is next h = cc
+    go false is next h = rw (plain b is) (ap (λ (l : List ℕ). b ∷ l) (next h))
 
--- a byte that is spelled out is written after all that waits
-pub spelled : (before out text escape : List ℕ) (from i : ℕ) → i < length text → from ≤ i → escape ≡ escaped_byte (get_or text i 0) → out ++ drop from (take i text) ≡ before ++ escaped (take i text) → ((out ++ take (i - from) (drop from text)) ++ escape) ++ drop (i + 1) (take (i + 1) text) ≡ before ++ escaped (take (i + 1) text)
-spelled before out text escape from i h behind spells written =
-    let e : from + (i - from) ≡ i = omega arith in
-    let part : take (i - from) (drop from text) ≡ drop from (take i text) = sym (drop-take from (i - from) text) ∙ ap (λ (n : ℕ). drop from (take n text)) e in
-    let short : length (take (i + 1) text) ≤ i + 1 = omega (arith, length-take (i + 1) text) in
-    ap (λ (bytes : List ℕ). ((out ++ take (i - from) (drop from text)) ++ escape) ++ bytes) (drop_of_length-le (take (i + 1) text) short)
-    ∙ append-nil ((out ++ take (i - from) (drop from text)) ++ escape)
-    ∙ ap (λ (bytes : List ℕ). (out ++ bytes) ++ escape) part
-    ∙ ap (λ (bytes : List ℕ). bytes ++ escape) written
-    ∙ append_assoc before (escaped (take i text)) escape
-    ∙ ap (λ (bytes : List ℕ). before ++ (escaped (take i text) ++ bytes)) spells
-    ∙ ap (λ (bytes : List ℕ). before ++ bytes) (sym (escaped-take text i h))
+abbrev IsEscapedAt : List ℕ → ℕ → ℕ → Type 0
+IsEscapedAt bs k i = (j : ℕ) × (i ≡ k + j) × (is_escaped (get_or bs j 0) ≡ true)
+    × (escaped bs ≡ take j bs ++ (escaped_byte (get_or bs j 0) ++ escaped (drop (j + 1) bs)))
+
+escaped_at : (bs : List ℕ) (k i : ℕ) → Some i ≡ position_from is_escaped k bs → IsEscapedAt bs k i
+escaped_at [] k i h = cc
+escaped_at (b ∷ bs) k i h = go (is_escaped b) refl (λ e. escaped_at bs (k + 1) i e) h
+  where
+    go : (t : Bool) → is_escaped b ≡ t
+        → (Some i ≡ position_from is_escaped (k + 1) bs → IsEscapedAt bs (k + 1) i)
+        → Some i ≡ cond t (Some k) (position_from is_escaped (k + 1) bs) → IsEscapedAt (b ∷ bs) k i
+    go true is next h = let e : i ≡ k = cc in (0, omega arith, is, refl)
+    go false is next h =
+        let r = next h in
+        let e : suc (r.0 + 1) ≡ suc r.0 + 1 = omega arith in (
+          suc r.0,
+          omega (arith, r.1),
+          r.2,
+          rw (plain b is) (ap (λ (l : List ℕ). b ∷ l) r.3)
+              ∙ ap (λ (n : ℕ). b ∷
+              (take r.0 bs ++ (escaped_byte (get_or bs r.0 0) ++ escaped (drop n (b ∷ bs))))) e,
+        )
+
+-- the text up to the first byte to escape, that byte's escape, and the rest
+pub escaped-around : (bs : List ℕ) (i : ℕ) → Some i ≡ position_from is_escaped 0 bs
+    → (is_escaped (get_or bs i 0) ≡ true)
+    × (escaped bs ≡ take i bs ++ escaped_byte (get_or bs i 0) ++ escaped (drop (i + 1) bs))
+escaped-around bs i h =
+    let r = escaped_at bs 0 i h in
+    let e : r.0 ≡ i = omega (arith, r.1) in (
+      ap (λ (n : ℕ). is_escaped (get_or bs n 0)) (sym e) ∙ r.2,
+      r.3
+          ∙ ap (λ (n : ℕ). take n bs ++ (escaped_byte (get_or bs n 0) ++ escaped (drop (n + 1) bs))) e
+          ∙ sym (append_assoc (take i bs) (escaped_byte (get_or bs i 0)) (escaped (drop (i + 1) bs))),
+    )

@@ -9,7 +9,8 @@ use Rattle.pipes_tuple.proofs.Equality.{value_eq-Decides, tuple_eq-Decides}
 
 -- values that the order ties are equal
 pub value_cmp-Equal : (x y : Value) → value_cmp x y ≡ Equal → x ≡ y
-value_cmp-Equal x y h = (value_eq-Decides x y).0 (value_cmp-ties x y ∙ (Equal-is (value_cmp x y)).1 h)
+value_cmp-Equal x y h = (value_eq-Decides x y).0
+    (value_cmp-ties x y ∙ (Equal-is (value_cmp x y)).1 h)
 
 -- a value ties with itself
 pub value_cmp-same : (x : Value) → value_cmp x x ≡ Equal
@@ -18,7 +19,8 @@ value_cmp-same x =
 
 -- lists of values that the order ties are equal
 pub tuple_cmp-Equal : (xs ys : List Value) → tuple_cmp xs ys ≡ Equal → xs ≡ ys
-tuple_cmp-Equal xs ys h = (tuple_eq-Decides xs ys).0 (tuple_cmp-ties xs ys ∙ (Equal-is (tuple_cmp xs ys)).1 h)
+tuple_cmp-Equal xs ys h = (tuple_eq-Decides xs ys).0
+    (tuple_cmp-ties xs ys ∙ (Equal-is (tuple_cmp xs ys)).1 h)
 
 -- a list of values ties with itself
 pub tuple_cmp-same : (xs : List Value) → tuple_cmp xs xs ≡ Equal

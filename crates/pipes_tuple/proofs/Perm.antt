@@ -47,37 +47,53 @@ module _ {X : Type 0} where
   -- two lists change places
   pub Perm-append_comm : (xs ys : List X) → Perm (xs ++ ys) (ys ++ xs)
   Perm-append_comm [] ys = Perm-equal (sym (append-nil ys))
-  Perm-append_comm (x ∷ xs) ys = then (keep x (Perm-append_comm xs ys)) (Perm-sym (Perm-front x ys xs))
+  Perm-append_comm (x ∷ xs) ys = then (keep x (Perm-append_comm xs ys))
+      (Perm-sym (Perm-front x ys xs))
 
   -- two pairs of lists, paired otherwise
   pub Perm-middle : (a b c d : List X) → Perm ((a ++ b) ++ (c ++ d)) ((a ++ c) ++ (b ++ d))
   Perm-middle a b c d =
       then (Perm-equal (append_assoc a b (c ++ d)))
-      (then (Perm-left a (then (Perm-equal (sym (append_assoc b c d))) (then (Perm-right d (Perm-append_comm b c)) (Perm-equal (append_assoc c b d)))))
+      (then (Perm-left a
+      (then (Perm-equal (sym (append_assoc b c d)))
+      (then (Perm-right d (Perm-append_comm b c)) (Perm-equal (append_assoc c b d)))))
       (Perm-equal (sym (append_assoc a c (b ++ d)))))
 
   -- a sum over the items is the same
   pub sum_by-Perm : (f : X → ℕ) {xs ys : List X} → Perm xs ys → sum_by f xs ≡ sum_by f ys
   sum_by-Perm f none = refl
-  sum_by-Perm f (keep x {xs} {ys} p) = sum_by-cons f x xs ∙ ap (λ n. f x + n) (sum_by-Perm f p) ∙ sym (sum_by-cons f x ys)
-  sum_by-Perm f (swap x y xs) = omega (arith, sum_by-cons f x (y ∷ xs), sum_by-cons f y xs, sum_by-cons f y (x ∷ xs), sum_by-cons f x xs)
+  sum_by-Perm f (keep x {xs} {ys} p) = sum_by-cons f x xs ∙ ap (λ n. f x + n) (sum_by-Perm f p)
+      ∙ sym (sum_by-cons f x ys)
+  sum_by-Perm f (swap x y xs) = omega (
+    arith,
+    sum_by-cons f x (y ∷ xs),
+    sum_by-cons f y xs,
+    sum_by-cons f y
+        (x ∷ xs),
+    sum_by-cons f x xs,
+  )
   sum_by-Perm f (then p q) = sum_by-Perm f p ∙ sum_by-Perm f q
 
   -- and so is how many items pass a test
-  pub count_by-Perm : (test : X → Bool) {xs ys : List X} → Perm xs ys → count_by test xs ≡ count_by test ys
+  pub count_by-Perm : (test : X → Bool) {xs ys : List X} → Perm xs ys
+      → count_by test xs ≡ count_by test ys
   count_by-Perm test p = sum_by-Perm (λ x. cond (test x) 1 0) p
 
-  filter_keep : (b : Bool) (x : X) {xs ys : List X} → Perm xs ys → Perm (cond b (x ∷ xs) xs) (cond b (x ∷ ys) ys)
+  filter_keep : (b : Bool) (x : X) {xs ys : List X} → Perm xs ys
+      → Perm (cond b (x ∷ xs) xs) (cond b (x ∷ ys) ys)
   filter_keep true x p = keep x p
   filter_keep false x p = p
 
-  filter_swap : (b c : Bool) (x y : X) (xs : List X) → Perm (cond b (x ∷ cond c (y ∷ xs) xs) (cond c (y ∷ xs) xs)) (cond c (y ∷ cond b (x ∷ xs) xs) (cond b (x ∷ xs) xs))
+  filter_swap : (b c : Bool) (x y : X) (xs : List X)
+      → Perm (cond b (x ∷ cond c (y ∷ xs) xs) (cond c (y ∷ xs) xs))
+      (cond c (y ∷ cond b (x ∷ xs) xs) (cond b (x ∷ xs) xs))
   filter_swap true true x y xs = swap x y xs
   filter_swap true false x y xs = Perm-refl (x ∷ xs)
   filter_swap false true x y xs = Perm-refl (y ∷ xs)
   filter_swap false false x y xs = Perm-refl xs
 
-  pub Perm-filter : (test : X → Bool) {xs ys : List X} → Perm xs ys → Perm (filter test xs) (filter test ys)
+  pub Perm-filter : (test : X → Bool) {xs ys : List X} → Perm xs ys
+      → Perm (filter test xs) (filter test ys)
   Perm-filter test none = none
   Perm-filter test (keep x q) = filter_keep (test x) x (Perm-filter test q)
   Perm-filter test (swap x y xs) = filter_swap (test x) (test y) x y (filter test xs)
@@ -91,32 +107,40 @@ module _ {X Y : Type 0} where
   Perm-map f (then p q) = then (Perm-map f p) (Perm-map f q)
 
   -- the parts that each item gives, over lists that are equal up to order
-  pub Perm-flat_map : (f : X → List Y) {xs ys : List X} → Perm xs ys → Perm (flat_map f xs) (flat_map f ys)
+  pub Perm-flat_map : (f : X → List Y) {xs ys : List X} → Perm xs ys
+      → Perm (flat_map f xs) (flat_map f ys)
   Perm-flat_map f none = none
   Perm-flat_map f (keep x p) = Perm-left (f x) (Perm-flat_map f p)
   Perm-flat_map f (swap x y xs) =
       then (Perm-equal (sym (append_assoc (f x) (f y) (flat_map f xs))))
-      (then (Perm-right (flat_map f xs) (Perm-append_comm (f x) (f y))) (Perm-equal (append_assoc (f y) (f x) (flat_map f xs))))
+      (then (Perm-right (flat_map f xs) (Perm-append_comm (f x) (f y)))
+      (Perm-equal (append_assoc (f y) (f x) (flat_map f xs))))
   Perm-flat_map f (then p q) = then (Perm-flat_map f p) (Perm-flat_map f q)
 
   -- and where the parts are equal up to order
-  pub Perm-each : (f g : X → List Y) → ((x : X) → Perm (f x) (g x)) → (xs : List X) → Perm (flat_map f xs) (flat_map g xs)
+  pub Perm-each : (f g : X → List Y) → ((x : X) → Perm (f x) (g x)) → (xs : List X)
+      → Perm (flat_map f xs) (flat_map g xs)
   Perm-each f g h [] = none
   Perm-each f g h (x ∷ xs) = Perm-append (h x) (Perm-each f g h xs)
 
   -- two parts that each item gives, together or one after the other
-  pub Perm-split : (f g : X → List Y) (xs : List X) → Perm (flat_map (λ x. f x ++ g x) xs) (flat_map f xs ++ flat_map g xs)
+  pub Perm-split : (f g : X → List Y) (xs : List X)
+      → Perm (flat_map (λ x. f x ++ g x) xs) (flat_map f xs ++ flat_map g xs)
   Perm-split f g [] = none
   Perm-split f g (x ∷ xs) =
-      then (Perm-left (f x ++ g x) (Perm-split f g xs)) (Perm-middle (f x) (g x) (flat_map f xs) (flat_map g xs))
+      then (Perm-left (f x ++ g x) (Perm-split f g xs))
+      (Perm-middle (f x) (g x) (flat_map f xs) (flat_map g xs))
 
   -- items that give nothing
-  pub flat_map-nothing : (xs : List X) → flat_map (λ (x : X). let nothing : List Y = [] in nothing) xs ≡ []
+  pub flat_map-nothing : (xs : List X)
+      → flat_map (λ (x : X). let nothing : List Y = [] in nothing) xs ≡ []
   flat_map-nothing [] = refl
   flat_map-nothing (x ∷ xs) = flat_map-nothing xs
 
 -- two loops, either one outside
-pub Perm-loops : {X Y Z : Type 0} (f : X → Y → List Z) (xs : List X) (ys : List Y) → Perm (flat_map (λ x. flat_map (f x) ys) xs) (flat_map (λ y. flat_map (λ x. f x y) xs) ys)
+pub Perm-loops : {X Y Z : Type 0} (f : X → Y → List Z) (xs : List X) (ys : List Y)
+    → Perm (flat_map (λ x. flat_map (f x) ys) xs) (flat_map (λ y. flat_map (λ x. f x y) xs) ys)
 Perm-loops {X} {Y} {Z} f [] ys = Perm-equal (sym (flat_map-nothing ys))
 Perm-loops {X} {Y} {Z} f (x ∷ xs) ys =
-    then (Perm-left (flat_map (f x) ys) (Perm-loops f xs ys)) (Perm-sym (Perm-split (f x) (λ y. flat_map (λ w. f w y) xs) ys))
+    then (Perm-left (flat_map (f x) ys) (Perm-loops f xs ys))
+    (Perm-sym (Perm-split (f x) (λ y. flat_map (λ w. f w y) xs) ys))

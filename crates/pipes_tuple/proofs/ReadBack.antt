@@ -28,7 +28,8 @@ is_i64-fits : (z : ℤ) → SFits w64 z → is_i64 z ≡ true
 is_i64-fits (pos n) h = let small : n < 2 ^ 63 = h.sfits in grind (arith, nat_tests)
 is_i64-fits (negsuc n) h = let small : n < 2 ^ 63 = h.sfits in grind (arith, nat_tests)
 
-number_reading-same : (minus : Bool) (ds : List ℕ) (z : ℤ) → IsNumeral 10 ds → signed_number minus ds ≡ z → SFits w64 z → number_reading minus ds ≡ Ok (Int z)
+number_reading-same : (minus : Bool) (ds : List ℕ) (z : ℤ) → IsNumeral 10 ds
+    → signed_number minus ds ≡ z → SFits w64 z → number_reading minus ds ≡ Ok (Int z)
 number_reading-same minus ds z numeral value fits =
     let digits = is_numeral-IsNumeral ds numeral in
     let inside = is_i64-fits z fits in
@@ -43,4 +44,5 @@ int_reading-signed_decimal (pos n) fits =
     rw plain (number_reading-same false (decimal n) (pos n) text.0 (ap pos text.1) fits)
 int_reading-signed_decimal (negsuc n) fits =
     let text = decimal_is_IsNumeral (suc n) (let small : n < 2 ^ 63 = fits.sfits in omega arith) in
-    number_reading-same true (decimal (suc n)) (negsuc n) text.0 (ap (λ (m : ℕ). neg_ℤ (pos m)) text.1) fits
+    number_reading-same true (decimal (suc n)) (negsuc n) text.0
+    (ap (λ (m : ℕ). neg_ℤ (pos m)) text.1) fits

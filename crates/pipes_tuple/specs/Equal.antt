@@ -1,23 +1,32 @@
 -- Equality of values, of tuples and of schemas, as tests.
-use Rattle.std.specs.Prelude.{Bool, List}
+use Rattle.std.specs.Prelude.{Bool, false, List, nat_eq}
+use Rattle.std.specs.Bool.{beq}
+use Rattle.std.specs.Ordering.{int_eq, on}
 use Rattle.std.specs.Cmp.Lexicographic.{pointwise}
 use Rattle.pipes_tuple.specs.declared.value.Kind.{Kind}
 use Rattle.pipes_tuple.specs.declared.value.Value.{Value}
-use Rattle.pipes_tuple.specs.contracts.value.KindPartialEq.TheImpl.{ghosts as kinds}
-use Rattle.pipes_tuple.specs.contracts.value.ValuePartialEq.TheImpl.{ghosts}
+use Rattle.pipes_tuple.specs.declared.value.Value.TheVariants.{Int, Text, Flag}
+use Rattle.pipes_tuple.specs.Kinds.{kind_place}
 
--- `a == b` of values
+-- two integers, two texts with the same bytes, or two flags
 abbrev pub value_eq : Value → Value → Bool
-value_eq = ghosts.eq
+value_eq (Int m) (Int n) = int_eq m n
+value_eq (Int m) (Text t) = false
+value_eq (Int m) (Flag b) = false
+value_eq (Text s) (Int n) = false
+value_eq (Text s) (Text t) = pointwise nat_eq s t
+value_eq (Text s) (Flag b) = false
+value_eq (Flag a) (Int n) = false
+value_eq (Flag a) (Text t) = false
+value_eq (Flag a) (Flag b) = beq a b
 
--- `a == b` of tuples: as many values, equal one by one
+-- as many values, equal one by one
 abbrev pub tuple_eq : List Value → List Value → Bool
 tuple_eq = pointwise value_eq
 
--- `a == b` of kinds
 abbrev pub kind_eq : Kind → Kind → Bool
-kind_eq = kinds.eq
+kind_eq = on kind_place nat_eq
 
--- `a == b` of schemas: as many kinds, equal one by one
+-- as many kinds, equal one by one
 abbrev pub schema_eq : List Kind → List Kind → Bool
 schema_eq = pointwise kind_eq

@@ -6,3 +6,4 @@ pub mod Columns
 pub mod Texts
 pub mod Reading
 pub mod Bag
+pub mod Limits

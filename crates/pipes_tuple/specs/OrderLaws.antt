@@ -1,19 +1,17 @@
--- The laws of the order of values, which its implementation cites: it is total, and it ties exactly equal values.
-use Rattle.std.proofs.Common.{◌≡◌, Bool, true, false, List, Some, refl, ap}
+-- The laws of equality and of the order, which their implementations cite: each order is total, and
+-- it ties exactly what is equal. (For proofs; nothing else reads this file.)
+use Rattle.std.proofs.Common.{◌≡◌, Bool, true, false, List, Some, refl, sym, subst, ap}
 use Rattle.std.proofs.lemmas.Bool.{true≢false}
 use Rattle.std.specs.declared.cmp.Ordering.TheVariants.{Less, Equal}
 use Rattle.std.specs.Ordering.{eq_by_cmp, ordering_reverse, is_lt, is_gt}
-use Rattle.std.specs.Cmp.{IsTotalOrder, IsPartialOrder, IsEquivalence, IsPartialEquivalence, int_cmp_total, bool_cmp_total, partial_order_from_agreeing_total}
+use Rattle.std.specs.Cmp.{IsTotalOrder, IsPartialOrder, IsEquivalence, IsPartialEquivalence, int_cmp_total, nat_cmp_total, nat_eq_equiv, bool_cmp_total, on_total, on_equiv, eq_by_cmp_equiv, partial_equiv_from_equiv, partial_order_from_agreeing_total}
 use Rattle.std.specs.Cmp.Lexicographic.{nat_list_cmp_total, texts_ties, lists_per, lists_equiv, lists_total, lists_ties}
 use Rattle.pipes_tuple.specs.declared.value.Kind.{Kind}
+use Rattle.pipes_tuple.specs.declared.value.Kind.TheVariants as kind
 use Rattle.pipes_tuple.specs.declared.value.Value.{Value}
 use Rattle.pipes_tuple.specs.declared.value.Value.TheVariants.{Int, Text, Flag}
-use Rattle.pipes_tuple.specs.contracts.value.ValuePartialEq.TheImpl.Laws as same
-use Rattle.pipes_tuple.specs.contracts.value.ValueEq.TheImpl.Laws as alike
-use Rattle.pipes_tuple.specs.contracts.value.KindPartialEq.TheImpl.Laws as same_kind
-use Rattle.pipes_tuple.specs.contracts.value.KindEq.TheImpl.Laws as alike_kind
-use Rattle.pipes_tuple.specs.contracts.value.KindOrd.TheImpl.Laws as kinds
-use Rattle.pipes_tuple.specs.Equal.{value_eq, tuple_eq, schema_eq}
+use Rattle.pipes_tuple.specs.Equal.{value_eq, tuple_eq, kind_eq, schema_eq}
+use Rattle.pipes_tuple.specs.Kinds.{kind_place}
 use Rattle.pipes_tuple.specs.Order.{value_cmp, tuple_cmp, kind_cmp, schema_cmp}
 
 antisymm : (x y : Value) → value_cmp x y ≡ ordering_reverse (value_cmp y x)
@@ -82,15 +80,23 @@ value_cmp-ties (Flag a) (Int n) = refl
 value_cmp-ties (Flag a) (Text t) = refl
 value_cmp-ties (Flag a) (Flag b) = flags a b
 
+pub value_eq-equivalence : IsEquivalence value_eq
+value_eq-equivalence =
+    subst (λ (E : Value → Value → Bool). IsEquivalence E) (λ i x y. sym (value_cmp-ties x y) i)
+    (eq_by_cmp_equiv value_cmp-total)
+
+pub value_eq-partial : IsPartialEquivalence value_eq
+value_eq-partial = partial_equiv_from_equiv value_eq-equivalence
+
 pub value_cmp-partial : IsPartialOrder value_eq (λ x y. Some (value_cmp x y))
 value_cmp-partial =
     partial_order_from_agreeing_total value_cmp value_cmp-total (λ x y. refl) value_cmp-ties
 
 pub tuple_eq-partial : IsPartialEquivalence tuple_eq
-tuple_eq-partial = lists_per same.laws-law
+tuple_eq-partial = lists_per value_eq-partial
 
 pub tuple_eq-equivalence : IsEquivalence tuple_eq
-tuple_eq-equivalence = lists_equiv alike.laws-law
+tuple_eq-equivalence = lists_equiv value_eq-equivalence
 
 pub tuple_cmp-total : IsTotalOrder tuple_cmp
 tuple_cmp-total = lists_total value_cmp-total
@@ -102,17 +108,38 @@ pub tuple_cmp-partial : IsPartialOrder tuple_eq (λ xs ys. Some (tuple_cmp xs ys
 tuple_cmp-partial =
     partial_order_from_agreeing_total tuple_cmp tuple_cmp-total (λ xs ys. refl) tuple_cmp-ties
 
+pub kind_eq-equivalence : IsEquivalence kind_eq
+kind_eq-equivalence = on_equiv kind_place nat_eq_equiv
+
+pub kind_cmp-total : IsTotalOrder kind_cmp
+kind_cmp-total = on_total kind_place nat_cmp_total
+
+pub kind_cmp-ties : (x y : Kind) → kind_eq x y ≡ eq_by_cmp kind_cmp x y
+kind_cmp-ties kind.Int kind.Int = refl
+kind_cmp-ties kind.Int kind.Text = refl
+kind_cmp-ties kind.Int kind.Flag = refl
+kind_cmp-ties kind.Text kind.Int = refl
+kind_cmp-ties kind.Text kind.Text = refl
+kind_cmp-ties kind.Text kind.Flag = refl
+kind_cmp-ties kind.Flag kind.Int = refl
+kind_cmp-ties kind.Flag kind.Text = refl
+kind_cmp-ties kind.Flag kind.Flag = refl
+
+pub kind_cmp-partial : IsPartialOrder kind_eq (λ x y. Some (kind_cmp x y))
+kind_cmp-partial =
+    partial_order_from_agreeing_total kind_cmp kind_cmp-total (λ x y. refl) kind_cmp-ties
+
 pub schema_eq-partial : IsPartialEquivalence schema_eq
-schema_eq-partial = lists_per same_kind.laws-law
+schema_eq-partial = lists_per (partial_equiv_from_equiv kind_eq-equivalence)
 
 pub schema_eq-equivalence : IsEquivalence schema_eq
-schema_eq-equivalence = lists_equiv alike_kind.laws-law
+schema_eq-equivalence = lists_equiv kind_eq-equivalence
 
 pub schema_cmp-total : IsTotalOrder schema_cmp
-schema_cmp-total = lists_total kinds.total-law
+schema_cmp-total = lists_total kind_cmp-total
 
 pub schema_cmp-ties : (xs ys : List Kind) → schema_eq xs ys ≡ eq_by_cmp schema_cmp xs ys
-schema_cmp-ties xs ys = lists_ties kind_cmp kinds.matches_eq-law xs ys
+schema_cmp-ties xs ys = lists_ties kind_cmp kind_cmp-ties xs ys
 
 pub schema_cmp-partial : IsPartialOrder schema_eq (λ xs ys. Some (schema_cmp xs ys))
 schema_cmp-partial =

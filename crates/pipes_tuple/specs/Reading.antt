@@ -17,7 +17,8 @@ is_numeral bytes = nat_lt 0 (length bytes) && list_all is_ascii_digit bytes
 
 -- the number that the digits write, after a minus sign or with none
 abbrev pub signed_number : Bool → List ℕ → ℤ
-signed_number minus digits = if minus then neg_ℤ (pos (digits_value 10 digits)) else pos (digits_value 10 digits)
+signed_number minus digits = if minus then neg_ℤ (pos (digits_value 10 digits)) else pos
+    (digits_value 10 digits)
 
 -- the integers of 64 bits
 abbrev pub is_i64 : ℤ → Bool
@@ -27,12 +28,14 @@ is_i64 n = int_le (negsuc (2 ^ 63 - 1)) n && int_le n (pos (2 ^ 63 - 1))
 abbrev pub number_reading : Bool → List ℕ → Result Value ValueRefusal
 number_reading minus digits =
     if is_numeral digits
-    then (if is_i64 (signed_number minus digits) then Ok (Int (signed_number minus digits)) else Err IntRange)
+    then (if is_i64 (signed_number minus digits) then Ok
+    (Int (signed_number minus digits)) else Err IntRange)
     else Err NotInt
 
 -- an integer: a minus sign or none, and digits
 abbrev pub int_reading : List ℕ → Result Value ValueRefusal
-int_reading bytes = if starts_with_minus bytes then number_reading true (drop 1 bytes) else number_reading false bytes
+int_reading bytes = if starts_with_minus bytes then number_reading true
+    (drop 1 bytes) else number_reading false bytes
 
 -- a text: UTF-8 of at most 65,535 bytes, whose length is looked at first
 abbrev pub text_reading : List ℕ → Result Value ValueRefusal

@@ -1,11 +1,15 @@
 -- The texts of values.
-use Rattle.std.specs.Prelude.{ℕ, List, [], ◌∷◌, ◌++◌, true, false, codes, ◌==◌, if◌then◌else◌}
+use Rattle.std.specs.Prelude.{ℕ, Bool, List, [], ◌∷◌, ◌++◌, true, false, codes, ◌==◌, ◌||◌, if◌then◌else◌}
 use Rattle.std.specs.Fmt.{signed_decimal}
 use Rattle.std.specs.List.{flat_map}
 use Rattle.pipes_tuple.specs.declared.value.Value.{Value}
 use Rattle.pipes_tuple.specs.declared.value.Value.TheVariants.{Int, Text, Flag}
 
--- a byte of a text, as it stands between quotes: a backslash, a quote, LF and CR are spelled out
+-- a byte that does not stand for itself between quotes: a backslash, a quote, LF or CR
+abbrev pub is_escaped : ℕ → Bool
+is_escaped byte = byte == 92 || byte == 34 || byte == 10 || byte == 13
+
+-- a byte of a text, as it is between quotes
 abbrev pub escaped_byte : ℕ → List ℕ
 escaped_byte byte =
     if byte == 92 then codes "\\\\"
@@ -14,7 +18,7 @@ escaped_byte byte =
     else if byte == 13 then codes "\\r"
     else byte ∷ []
 
--- a text's bytes, as they stand between quotes
+-- a text's bytes, as they are between quotes
 abbrev pub escaped : List ℕ → List ℕ
 escaped bytes = flat_map escaped_byte bytes
 
@@ -22,7 +26,8 @@ escaped bytes = flat_map escaped_byte bytes
 abbrev pub quoted : List ℕ → List ℕ
 quoted bytes = 34 ∷ escaped bytes ++ 34 ∷ []
 
--- a value's one text: an integer in decimal, with a minus sign where it is negative, a text between quotes, `true` or `false`
+-- A value's one text: an integer in decimal, with a minus sign where it is negative, a text between
+-- quotes, `true` or `false`.
 abbrev pub text_of : Value → List ℕ
 text_of (Int n) = signed_decimal n
 text_of (Text bytes) = quoted bytes

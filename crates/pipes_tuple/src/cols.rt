@@ -1,5 +1,5 @@
 // Lists of columns.
-use crate::Listed;
+use crate::BoundedList;
 
 /// The places of columns, counted from 0: at most 32.
-pub type Cols = Listed<u32, 32>;
+pub type Cols = BoundedList<u32, 32>;

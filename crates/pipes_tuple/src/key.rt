@@ -1,4 +1,4 @@
-// Keys: the values by which tuples are told apart.
+// Keys: the values by which tuples are distinguished.
 ghost use Rattle.std.specs.Prelude.{◌≡◌, ◌≤◌, ◌↔◌, length, IfOk, IfSome, IsSome, vec_len};
 ghost use Rattle.pipes_tuple.specs.Columns.{at_columns};
 

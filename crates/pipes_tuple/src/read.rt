@@ -1,8 +1,8 @@
 // Reading values.
-ghost use Rattle.std.specs.Prelude.{◌≡◌, ◌≢◌, ◌-◌, ◌^◌, ◌↔◌, min, true, IsTrue, IsSome, IsOk, IfOk, IfErr, IfSome};
-ghost use Rattle.std.specs.Str.Parse.{digits_value};
-ghost use Rattle.pipes_tuple.specs.Reading.{is_numeral, number_reading, int_reading, text_reading, flag_reading, reading};
+ghost use Rattle.std.specs.Prelude.{◌≡◌, ◌≢◌, true, IsOk, IfOk, IfErr};
+ghost use Rattle.pipes_tuple.specs.Reading.{number_reading, int_reading, text_reading, flag_reading, reading};
 
+use crate::digits::digits_value;
 use crate::{Kind, LONGEST_TEXT, Text, TextFault, Value};
 use std::alloc::Global;
 use std::str;
@@ -20,7 +20,7 @@ pub enum ValueRefusal {
     TooLong,
     /// They are neither `true` nor `false`.
     NotFlag,
-    /// Memory was refused.
+    /// Out of memory.
     Memory,
 }
 
@@ -55,7 +55,7 @@ fn read_int(bytes: &[u8]) -> Result<Value, ValueRefusal>
 fn read_number(minus: bool, digits: &[u8]) -> Result<Value, ValueRefusal>
     ensures { result ≡ number_reading minus digits.now }
 {
-    let Some(size) = size_of(digits) else {
+    let Some(size) = digits_value(digits) else {
         return Err(ValueRefusal::NotInt);
     };
     let number = if minus {
@@ -67,27 +67,6 @@ fn read_number(minus: bool, digits: &[u8]) -> Result<Value, ValueRefusal>
         Some(number) => Ok(Value::Int(number)),
         None => Err(ValueRefusal::IntRange),
     }
-}
-
-// The number that the digits write, or the greatest of 64 bits where it is greater; none where they
-// are no digits.
-fn size_of(digits: &[u8]) -> Option<u64>
-    ensures exact { IsSome result ↔ IsTrue (is_numeral digits.now) }
-    ensures value { IfSome result (λ size. size ≡ min (digits_value 10 digits.now) (2 ^ 64 - 1)) }
-{
-    if digits.is_empty() {
-        return None;
-    }
-    let mut size = 0u64;
-    for digit in digits {
-        if !digit.is_ascii_digit() {
-            return None;
-        }
-        size = size
-            .saturating_mul(10)
-            .saturating_add(u64::from(*digit - b'0'));
-    }
-    Some(size)
 }
 
 // The text that the bytes are.
@@ -120,58 +99,5 @@ fn read_flag(bytes: &[u8]) -> Result<Value, ValueRefusal>
         Ok(Value::Flag(false))
     } else {
         Err(ValueRefusal::NotFlag)
-    }
-}
-
-#[cfg(test)]
-mod tests {
-    use super::*;
-    use std::test::Fail;
-
-    #[test]
-    fn numbers_and_flags(rt: HostRuntime) -> Result<(), Fail> {
-        let numbers = [
-            ("-0", Ok(0)),
-            ("007", Ok(7)),
-            (
-                "000000000000000000000000000000-1",
-                Err(ValueRefusal::NotInt),
-            ),
-            ("9223372036854775807", Ok(i64::MAX)),
-            ("-9223372036854775808", Ok(i64::MIN)),
-            ("9223372036854775808", Err(ValueRefusal::IntRange)),
-            ("-9223372036854775809", Err(ValueRefusal::IntRange)),
-            ("+1", Err(ValueRefusal::NotInt)),
-            ("", Err(ValueRefusal::NotInt)),
-            ("-", Err(ValueRefusal::NotInt)),
-            ("99999999999999999999 ", Err(ValueRefusal::NotInt)),
-        ];
-        for (text, wanted) in numbers {
-            let read = Value::read(rt.alloc(), Kind::Int, text.as_bytes());
-            assert_eq!(rt; read, wanted.map(Value::Int), "{text}");
-        }
-        let flags = [
-            ("true", Ok(true)),
-            ("false", Ok(false)),
-            ("yes", Err(ValueRefusal::NotFlag)),
-            ("t", Err(ValueRefusal::NotFlag)),
-        ];
-        for (text, wanted) in flags {
-            let read = Value::read(rt.alloc(), Kind::Flag, text.as_bytes());
-            assert_eq!(rt; read, wanted.map(Value::Flag), "{text}");
-        }
-        Ok(())
-    }
-
-    #[test]
-    fn texts(rt: HostRuntime) -> Result<(), Fail> {
-        let read = Value::read(rt.alloc(), Kind::Text, b"ab")?;
-        assert_eq!(rt; read, Value::Text(Text::new(rt.alloc(), "ab")?));
-        let other = Value::read(rt.alloc(), Kind::Text, b"\xFF");
-        assert_eq!(rt; other, Err(ValueRefusal::NotUtf8));
-        let long = vec![in rt.alloc(); 0xFF; LONGEST_TEXT + 1]?;
-        let longer = Value::read(rt.alloc(), Kind::Text, long.as_slice());
-        assert_eq!(rt; longer, Err(ValueRefusal::TooLong));
-        Ok(())
     }
 }

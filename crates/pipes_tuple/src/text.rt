@@ -37,7 +37,7 @@ impl Model for Text {
 pub enum TextFault {
     /// It has more than [`LONGEST_TEXT`] bytes.
     TooLong,
-    /// Memory was refused.
+    /// Out of memory.
     Memory,
 }
 

@@ -18,7 +18,7 @@ pub enum ProjectFault {
     NoColumn(u32),
     /// There are no columns, and a tuple is never empty.
     Empty,
-    /// Memory was refused.
+    /// Out of memory.
     Memory,
 }
 
@@ -220,85 +220,5 @@ impl Hash for Tuple {
 
     fn hash<H: Hasher>(&self, state: &mut H) {
         self.as_slice().hash(state);
-    }
-}
-
-#[cfg(test)]
-mod tests {
-    use super::*;
-    use crate::{Kind, Text};
-    use std::alloc::Global;
-    use std::collections::{BTreeMap, HashMap};
-    use std::test::Fail;
-
-    fn tuple_of<const N: usize>(alloc: Global, values: [Value; N]) -> Result<Tuple, Fail> {
-        Ok(Tuple::new(Vec::from_array(alloc, values)?).ok_or("no tuple")?)
-    }
-
-    fn columns<const N: usize>(alloc: Global, columns: [u32; N]) -> Result<Cols, Fail> {
-        Ok(Cols::new(Vec::from_array(alloc, columns)?).ok_or("no columns")?)
-    }
-
-    #[test]
-    fn limits(rt: HostRuntime) -> Result<(), Fail> {
-        assert!(rt; Tuple::new(Vec::new(rt.alloc())).is_none());
-        assert!(rt; Schema::new(Vec::new(rt.alloc())).is_none());
-        for (many, fits) in [(32, true), (33, false)] {
-            let mut values = Vec::new(rt.alloc());
-            let mut others = Vec::new(rt.alloc());
-            for number in 0..many {
-                values.push(Value::Int(number))?;
-                others.push(Value::Int(number))?;
-            }
-            assert_eq!(rt; Tuple::new(values).is_some(), fits);
-            assert_eq!(rt; Key::new(others).is_some(), fits);
-            let kinds = vec![in rt.alloc(); Kind::Flag; many as usize]?;
-            assert_eq!(rt; Schema::new(kinds).is_some(), fits);
-            let list = vec![in rt.alloc(); 7; many as usize]?;
-            assert_eq!(rt; Cols::new(list).is_some(), fits);
-        }
-        Ok(())
-    }
-
-    #[test]
-    fn parts_of_tuples(rt: HostRuntime) -> Result<(), Fail> {
-        let alloc = rt.alloc();
-        let text = Value::Text(Text::new(alloc, "a")?);
-        let tuple = tuple_of(alloc, [Value::Int(1), text, Value::Flag(true)])?;
-        assert_eq!(rt; tuple.len(), 3);
-        assert_eq!(rt; tuple.get(2), Some(&Value::Flag(true)));
-        assert!(rt; tuple.get(3).is_none());
-        let turned = tuple_of(alloc, [Value::Flag(true), Value::Int(1)])?;
-        assert!(rt; tuple.project(&columns(alloc, [2, 0])?)? == turned);
-        assert!(rt; tuple.project(&columns(alloc, [0, 3, 4])?) == Err(ProjectFault::NoColumn(3)));
-        let none = columns(alloc, [])?;
-        assert!(rt; tuple.project(&none) == Err(ProjectFault::Empty));
-        assert!(rt; tuple.key(&none)?.as_slice().is_empty());
-        assert!(rt; tuple.copy()? == tuple);
-        let one = tuple_of(alloc, [Value::Int(1)])?;
-        let two = tuple_of(alloc, [Value::Int(2)])?;
-        let both = tuple_of(alloc, [Value::Int(1), Value::Int(2)])?;
-        assert!(rt; one.len() + two.len() == both.len());
-        assert!(rt; one.append(&two)? == both);
-        assert!(rt; one < both && both < two && two < turned);
-        let kinds = vec![in alloc; Kind::Int, Kind::Text, Kind::Flag]?;
-        let schema = Schema::new(kinds).ok_or("no schema")?;
-        assert_eq!(rt; (tuple.fits(&schema), both.fits(&schema)), (true, false));
-        Ok(())
-    }
-
-    #[test]
-    fn tuples_and_keys_in_maps(rt: HostRuntime) -> Result<(), Fail> {
-        let alloc = rt.alloc();
-        let one = tuple_of(alloc, [Value::Int(1)])?;
-        let two = tuple_of(alloc, [Value::Int(2)])?;
-        let mut names = HashMap::new(alloc);
-        names.insert(one.copy()?, "one")?;
-        assert_eq!(rt; (names.get(&one), names.get(&two)), (Some(&"one"), None));
-        let empty = Key::new(Vec::new(alloc)).ok_or("no key")?;
-        let mut places = BTreeMap::new(alloc);
-        places.insert(empty.copy()?, 7)?;
-        assert_eq!(rt; places.get(&empty), Some(&7));
-        Ok(())
     }
 }

@@ -1,18 +1,19 @@
 // Values and their kinds.
 ghost use Rattle.std.specs.Prelude.{◌≡◌, ◌≢◌, ◌++◌, IfOk, OnOk, OnErr};
 ghost use Rattle.pipes_tuple.specs.Columns.{at_columns};
-ghost use Rattle.pipes_tuple.specs.Kinds.{kind_of};
+ghost use Rattle.pipes_tuple.specs.Kinds.{kind_named, kind_of, kind_place, kind_word};
+ghost use Rattle.pipes_tuple.specs.Limits.{IsValue};
 ghost use Rattle.pipes_tuple.specs.Reading.{reading};
 ghost use Rattle.pipes_tuple.specs.Texts.{text_of};
 
 use crate::Text;
-use crate::print::{print_number, print_quoted};
+use crate::appending::{append, append_int, append_quoted};
 use pipes_time::Memory;
 use std::alloc::Global;
 use std::cmp::Ordering;
 
-/// What a value is.
-#[derive(Clone, Copy, Debug, PartialEq, Eq, PartialOrd, Ord, Hash)]
+/// What a value is. Whole numbers are ordered before texts, and texts before flags.
+#[derive(Clone, Copy, Debug, Hash)]
 pub enum Kind {
     /// A whole number of 64 bits with a sign.
     Int,
@@ -23,7 +24,7 @@ pub enum Kind {
 }
 
 /// One value of a tuple. Whole numbers are ordered before texts, and texts before flags.
-#[derive(Debug, PartialEq, Eq, Hash, Drop)]
+#[derive(Debug, Hash, Drop)]
 pub enum Value {
     /// A whole number, ordered by number.
     Int(i64),
@@ -31,6 +32,45 @@ pub enum Value {
     Text(Text),
     /// True or false, false before true.
     Flag(bool),
+}
+
+impl Kind {
+    /// The word for the kind: `int`, `text` or `flag`.
+    pub fn word(self) -> &'static [u8]
+        ensures { result.now ≡ kind_word self }
+    {
+        match self {
+            Kind::Int => b"int",
+            Kind::Text => b"text",
+            Kind::Flag => b"flag",
+        }
+    }
+
+    /// The kind for which this is the word.
+    pub fn named(word: &[u8]) -> Option<Kind>
+        ensures { result ≡ kind_named word.now }
+    {
+        if word == b"int".as_slice() {
+            Some(Kind::Int)
+        } else if word == b"text".as_slice() {
+            Some(Kind::Text)
+        } else if word == b"flag".as_slice() {
+            Some(Kind::Flag)
+        } else {
+            None
+        }
+    }
+
+    // Its place in the order.
+    fn place(self) -> u8
+        ensures { result ≡ kind_place self }
+    {
+        match self {
+            Kind::Int => 0,
+            Kind::Text => 1,
+            Kind::Flag => 2,
+        }
+    }
 }
 
 impl Value {
@@ -45,20 +85,21 @@ impl Value {
         }
     }
 
-    /// Appends the value's text. After want of memory `out` is as before.
+    /// Appends the value's text. Out of memory, `out` is as before.
     pub fn print(&self, out: &mut Vec<u8>) -> Result<(), Memory>
         ensures ok { OnOk result (out.new.items ≡ out.old.items ++ text_of self.now) }
         ensures err { OnErr result (out.new.items ≡ out.old.items) }
+        ensures limits { IsValue self.now }
 
         // The text of a number or of a flag is read back as the value.
         ensures read_back { kind_of self.now ≢ Kind.Text
             → reading (kind_of self.now) (text_of self.now) ≡ Ok self.now }
     {
         match self {
-            Value::Int(number) => print_number(*number, out),
-            Value::Text(text) => print_quoted(text.as_str().as_bytes(), out),
-            Value::Flag(true) => Ok(out.extend_from_slice(b"true")?),
-            Value::Flag(false) => Ok(out.extend_from_slice(b"false")?),
+            Value::Int(number) => append_int(*number, out),
+            Value::Text(text) => append_quoted(text.as_str().as_bytes(), out),
+            Value::Flag(true) => append(b"true", out),
+            Value::Flag(false) => append(b"false", out),
         }
     }
 
@@ -101,6 +142,82 @@ pub(crate) fn copy_at(
     Ok(copies)
 }
 
+impl PartialEq for Kind {
+    ghost use Rattle.std.specs.Cmp.{partial_equiv_from_equiv};
+    ghost use Rattle.pipes_tuple.specs.Equal.{kind_eq};
+    ghost use Rattle.pipes_tuple.specs.OrderLaws.{kind_eq-equivalence};
+
+    ghost eq = { kind_eq };
+
+    ghost laws = { partial_equiv_from_equiv kind_eq-equivalence };
+
+    fn eq(&self, other: &Kind) -> bool {
+        self.place() == other.place()
+    }
+}
+
+impl Eq for Kind {
+    ghost use Rattle.pipes_tuple.specs.OrderLaws.{kind_eq-equivalence};
+
+    ghost laws = { kind_eq-equivalence };
+}
+
+impl PartialOrd for Kind {
+    ghost use Rattle.std.specs.Prelude.{Some};
+    ghost use Rattle.pipes_tuple.specs.Order.{kind_cmp};
+    ghost use Rattle.pipes_tuple.specs.OrderLaws.{kind_cmp-partial};
+
+    ghost partial_cmp = { λ x y. Some (kind_cmp x y) };
+
+    ghost laws = { kind_cmp-partial };
+
+    fn partial_cmp(&self, other: &Kind) -> Option<Ordering> {
+        Some(self.cmp(other))
+    }
+}
+
+impl Ord for Kind {
+    ghost use Rattle.std.specs.Prelude.{refl};
+    ghost use Rattle.pipes_tuple.specs.Order.{kind_cmp};
+    ghost use Rattle.pipes_tuple.specs.OrderLaws.{kind_cmp-total, kind_cmp-ties};
+
+    ghost cmp = { kind_cmp };
+
+    ghost total = { kind_cmp-total };
+
+    ghost matches_partial_cmp = { λ x y. refl };
+
+    ghost matches_eq = { kind_cmp-ties };
+
+    fn cmp(&self, other: &Kind) -> Ordering {
+        self.place().cmp(&other.place())
+    }
+}
+
+impl PartialEq for Value {
+    ghost use Rattle.pipes_tuple.specs.Equal.{value_eq};
+    ghost use Rattle.pipes_tuple.specs.OrderLaws.{value_eq-partial};
+
+    ghost eq = { value_eq };
+
+    ghost laws = { value_eq-partial };
+
+    fn eq(&self, other: &Value) -> bool {
+        match (self, other) {
+            (Value::Int(left), Value::Int(right)) => left == right,
+            (Value::Text(left), Value::Text(right)) => left == right,
+            (Value::Flag(left), Value::Flag(right)) => left == right,
+            _ => false,
+        }
+    }
+}
+
+impl Eq for Value {
+    ghost use Rattle.pipes_tuple.specs.OrderLaws.{value_eq-equivalence};
+
+    ghost laws = { value_eq-equivalence };
+}
+
 impl PartialOrd for Value {
     ghost use Rattle.std.specs.Prelude.{Some};
     ghost use Rattle.pipes_tuple.specs.Order.{value_cmp};
@@ -135,35 +252,5 @@ impl Ord for Value {
             (Value::Flag(left), Value::Flag(right)) => left.cmp(right),
             _ => self.kind().cmp(&other.kind()),
         }
-    }
-}
-
-#[cfg(test)]
-mod tests {
-    use super::*;
-    use std::test::Fail;
-
-    #[test]
-    fn printed_values(rt: HostRuntime) -> Result<(), Fail> {
-        let cases = [
-            (Value::Int(0), "0"),
-            (Value::Int(-12), "-12"),
-            (Value::Int(i64::MAX), "9223372036854775807"),
-            (Value::Int(i64::MIN), "-9223372036854775808"),
-            (Value::Flag(true), "true"),
-            (Value::Flag(false), "false"),
-            (Value::Text(Text::new(rt.alloc(), "ab")?), r#""ab""#),
-            (Value::Text(Text::new(rt.alloc(), "")?), r#""""#),
-            (
-                Value::Text(Text::new(rt.alloc(), "\\ \" \n \r \t é")?),
-                "\"\\\\ \\\" \\n \\r \t é\"",
-            ),
-        ];
-        for (value, text) in cases {
-            let mut out = Vec::new(rt.alloc());
-            value.copy()?.print(&mut out)?;
-            assert_eq!(rt; out.as_slice(), text.as_bytes());
-        }
-        Ok(())
     }
 }

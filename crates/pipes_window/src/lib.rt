@@ -6,8 +6,6 @@ mod kind;
 mod ring;
 mod row;
 mod rows_at;
-#[cfg(test)]
-mod tests;
 mod whole;
 mod window;
 

@@ -1,7 +1,7 @@
 // The last few of what has come.
 ghost use Rattle.std.specs.Prelude.{◌≡◌, ◌≤◌, [], ◌∷◌, ◌++◌, length, IfOk, OnOk, OnErr};
 ghost use Rattle.std.specs.Option.{option_to_list};
-ghost use Rattle.pipes_window.specs.Items.{last_of};
+ghost use Rattle.pipes_window.specs.Items.{last_n};
 
 use pipes_time::Memory;
 use std::collections::VecDeque;
@@ -13,8 +13,9 @@ pub(crate) fn slide<T: Drop>(
     newest: T,
 ) -> Result<Option<T>, Memory>
     requires { length held.old.items ≤ most }
-    ensures all { IfOk result (λ oldest. option_to_list oldest ++ held.new.items ≡ held.old.items ++ newest ∷ []) }
-    ensures last { OnOk result (held.new.items ≡ last_of most (held.old.items ++ newest ∷ [])) }
+    ensures all { IfOk result
+        (λ oldest. option_to_list oldest ++ held.new.items ≡ held.old.items ++ newest ∷ []) }
+    ensures last { OnOk result (held.new.items ≡ last_n most (held.old.items ++ newest ∷ [])) }
     ensures few { length held.new.items ≤ most }
     ensures kept { OnErr result (held.new.items ≡ held.old.items) }
 {

@@ -1,19 +1,19 @@
 // The rows that are valid at one instant.
-ghost use Rattle.std.specs.Prelude.{◌≡◌, [], ◌∷◌, ◌++◌, OnOk, OnErr};
+ghost use Rattle.std.specs.Prelude.{◌≡◌, ◌+◌, [], ◌∷◌, ◌++◌, ◌&&◌, nat_le, nat_lt, OnOk, OnErr};
 ghost use Rattle.pipes_window.specs.declared.item.Item.TheVariants as items;
 ghost use Rattle.pipes_window.specs.Valid as valid;
 ghost use Rattle.pipes_window.specs.Valid.{Gathers, HasValid, HoldsFew, newest};
 
 use crate::WindowKind;
 use crate::ring::slide;
-use pipes_time::Memory;
+use pipes_time::{Memory, last_slide};
 use pipes_tuple::Tuple;
 use std::alloc::Global;
 use std::collections::VecDeque;
 use std::marker::Model;
 
-/// Gathers the rows of one source that are valid at one instant. It takes the source's rows in their order, and holds no row that
-/// is not, by the rows taken so far, valid then.
+/// Gathers the rows of one source that are valid at one instant. It takes the source's rows in
+/// their order, and holds no row that is not, by the rows taken so far, valid then.
 #[derive(Drop)]
 pub struct RowsAt {
     kind: WindowKind,
@@ -31,12 +31,21 @@ impl Model for RowsAt {
     ghost invariant = { λ g. HoldsFew g.kind g.rows.items };
 }
 
-// Whether a row with this stamp has come by the instant and, in a time window, is still valid then.
+// Whether a row with this stamp is one of the last `size` instants up to this one.
+fn is_recent(stamp: u64, size: u64, time: u64) -> bool
+    ensures { result ≡ (nat_le stamp time && nat_lt time (stamp + size)) }
+{
+    stamp <= time && time - stamp < size
+}
+
+// Whether a row with this stamp has come by the instant and, but for a count window, is still valid
+// then.
 fn reaches(kind: WindowKind, stamp: u64, time: u64) -> bool
     ensures { result ≡ valid.reaches kind stamp time }
 {
     match kind {
-        WindowKind::Time(size) => stamp <= time && time - stamp < size,
+        WindowKind::Time(size) => is_recent(stamp, size, time),
+        WindowKind::Slide(size, slide) => is_recent(stamp, size, last_slide(time, slide)),
         WindowKind::Count(_) => stamp <= time,
     }
 }
@@ -49,7 +58,7 @@ fn keep(kind: WindowKind, rows: &mut VecDeque<Tuple>, tuple: Tuple) -> Result<()
     ensures few { HoldsFew kind rows.new.items }
 {
     match kind {
-        WindowKind::Time(_) => rows.push_back(tuple)?,
+        WindowKind::Time(_) | WindowKind::Slide(_, _) => rows.push_back(tuple)?,
         WindowKind::Count(most) => {
             slide(rows, most as usize, tuple)?;
         }
@@ -70,7 +79,7 @@ impl RowsAt {
         }
     }
 
-    /// Takes the next row. Without memory for it nothing changes.
+    /// Takes the next row. Out of memory, nothing changes.
     pub fn take(&mut self, stamp: u64, tuple: Tuple) -> Result<(), Memory>
         ensures takes { OnOk result (Gathers self.old self.new (items.Row stamp tuple)) }
         ensures memory { OnErr result (self.new ≡ self.old) }

@@ -1,6 +1,6 @@
 -- What the words of a command line command.
 use Rattle.std.specs.Prelude.{ℕ, List, [], ◌∷◌, length, Bool, false, not, ◌==◌, ◌&&◌, nat_lt, if◌then◌else◌, Option, Some, None, codes}
-use Rattle.std.specs.Option.{option_map}
+use Rattle.std.specs.Option.{option_map, option_and_then}
 use Rattle.std.specs.Char.{is_ascii_digit}
 use Rattle.std.specs.List.{list_all}
 use Rattle.std.specs.Str.Parse.{digits_value}
@@ -43,14 +43,9 @@ two_words name query = if bytes_eq name (codes "check") && is_positional query t
 abbrev pub three_words : List ℕ → List ℕ → List ℕ → Option Command
 three_words name query other = if bytes_eq name (codes "run") then run_of query other Stream else if bytes_eq name (codes "at") then at_of query other else None
 
-infixl 10 ◌>>=◌
-abbrev pub ◌>>=◌ : {A B : Type 0} → Option A → (A → Option B) → Option B
-(Some x) >>= f = f x
-None >>= f = None
-
 -- `run QUERY SCRIPT --form FORM`
 abbrev pub five_words : List ℕ → List ℕ → List ℕ → List ℕ → List ℕ → Option Command
-five_words name query script option value = if bytes_eq name (codes "run") && bytes_eq option (codes "--form") then (form_named value >>= λ form. run_of query script form) else None
+five_words name query script option value = if bytes_eq name (codes "run") && bytes_eq option (codes "--form") then option_and_then (run_of query script) (form_named value) else None
 
 abbrev pub command_of : List (List ℕ) → Option Command
 command_of (name ∷ query ∷ []) = two_words name query

@@ -11,10 +11,11 @@ invariant-items g l = record {
   found_at : g.S.Source.found_at l.src ≡ g.S.Source.found_at l.initial.src;
   going : l.reader.ended ≡ None;
   kinds : l.reader.kinds ≡ l.source.schema;
+  slack : l.reader.slack ≡ l.source.slack;
   window : l.rows.kind ≡ l.source.window;
   instant : l.rows.time ≡ l.time;
-  taken : HasTaken l.source.schema (ahead (fresh_reader l.source.schema) (g.S.Source.left l.initial.src)) (ahead l.reader (g.S.Source.left l.src)) l.rows;
+  taken : HasTaken l.source.schema l.source.slack (ahead (fresh_reader l.source.schema l.source.slack) (g.S.Source.left l.initial.src)) (ahead l.reader (g.S.Source.left l.src)) l.reader.reached l.waiting l.rows;
 }
 
 abbrev pub decreases-items : goal.decreases-items
-decreases-items g l = 4000000 - l.reader.behind.items
+decreases-items g l = 4000000 - l.reader.reached.items

@@ -1,5 +1,5 @@
 use Rattle.std.proofs.Common.{subst}
-use Rattle.pipes_grammar.specs.Reading.{Gives}
+use Rattle.pipes_reader.specs.Reading.{Gives}
 use Rattle.pipes_grammar.proofs.WholeExprs.{expr_front}
 use Rattle.pipes_grammar.proofs.expr.read_expr.Goals as goal
 

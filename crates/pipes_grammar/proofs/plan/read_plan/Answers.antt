@@ -1,5 +1,5 @@
 use Rattle.std.proofs.Common.{subst}
-use Rattle.pipes_grammar.specs.Reading.{Gives}
+use Rattle.pipes_reader.specs.Reading.{Gives}
 use Rattle.pipes_grammar.proofs.WholePlans.{plan_front}
 use Rattle.pipes_grammar.proofs.plan.read_plan.Goals as goal
 

@@ -1,6 +1,6 @@
 use Rattle.std.proofs.Common.{Err, subst}
 use Rattle.pipes_token.specs.declared.refusal.ReadFault.{ReadFault}
-use Rattle.pipes_query.specs.Texts.{ReadAs}
+use Rattle.pipes_reader.specs.Texts.{ReadAs}
 use Rattle.pipes_run.proofs.Queries.{gives_checked, no_other}
 use Rattle.pipes_run.proofs.query.query_in.Goals as goal
 

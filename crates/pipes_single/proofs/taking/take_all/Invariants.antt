@@ -14,4 +14,4 @@ invariant-items g l = record {
 }
 
 abbrev pub decreases-items : goal.decreases-items
-decreases-items g l = 4000001 - l.reader.behind.items
+decreases-items g l = 4000001 - l.reader.reached.items

@@ -12,9 +12,11 @@ loop-column-preserved c =
     elim c.match-get.branch [
       | in-Some+in_ok-copy+in_ok-push w ↦
           let got = w.in-Some.ensures.lookup in
-          let next = at_columns-there columns values i w.in-Some.value.now c.loop-column-test.true got.3.0 got.1 in
+          let next = at_columns-there columns values i w.in-Some.value.now c.loop-column-test.true
+          got.3.0 got.1 in
           cc (w.in_ok-push.ensures.items, w.in_ok-copy.ensures)
       | in_default w ↦
-          let next = at_columns-missing columns values i c.loop-column-test.true (grind (arith, nat_tests, w.in_default.ensures.lookup)) in
+          let next = at_columns-missing columns values i c.loop-column-test.true
+          (grind (arith, nat_tests, w.in_default.ensures.lookup)) in
           cc
     ]

@@ -1,5 +1,5 @@
 use Rattle.std.proofs.Common.{subst, Option, ◌≡◌, [], IfSome}
-use Rattle.pipes_window.specs.State.{State, HasTaken, new_state}
+use Rattle.pipes_window.specs.State.{State, WindowHasTaken as HasTaken, new_state}
 use Rattle.pipes_single.proofs.Running.{sends_none}
 use Rattle.pipes_single.proofs.sending.Sending.new.Goals as goal
 

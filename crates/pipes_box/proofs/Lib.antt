@@ -1,0 +1,14 @@
+pub mod Saying
+pub mod Merges
+pub mod Passed
+pub mod Emitting
+pub mod NodeSteps
+pub mod Answering
+pub mod Network
+pub mod Pieces
+pub mod Looks
+pub mod Built
+pub mod Plans
+pub mod BoxLaw
+pub mod Rounds
+pub mod Giving

@@ -1,0 +1,9 @@
+pub mod Says
+pub mod Merging
+pub mod Operators
+pub mod Passing
+pub mod Nodes
+pub mod Shapes
+pub mod Networks
+pub mod Parts
+pub mod Boxes

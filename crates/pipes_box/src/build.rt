@@ -1,0 +1,284 @@
+// A plan's nodes and links are made.
+ghost use Rattle.std.specs.Prelude.{◌≡◌, ◌≤◌, ◌<◌, ◌+◌, ◌++◌, [], ◌∷◌, true, length, IfOk, Some, None};
+ghost use Rattle.pipes_link.specs.declared.TheConstants.{MOST_ROOM};
+ghost use Rattle.pipes_plan.specs.PlanKinds.{IsTyped, plan_kinds};
+ghost use Rattle.pipes_plan.specs.Sizes.{plan_nodes, plan_depth};
+ghost use Rattle.pipes_box.specs.Operators.{task_of};
+ghost use Rattle.pipes_box.specs.Nodes.{ports_of, task_in};
+ghost use Rattle.pipes_box.specs.Shapes.{is_built};
+ghost use Rattle.pipes_box.specs.Parts.{Adds, AddsOver, AddsTask, IsPortOf, PartBuilt};
+ghost use Rattle.pipes_flat.specs.Tasks.{filter_task, map_task, union_task};
+ghost use Rattle.pipes_plan.specs.declared.plan.Plan.TheVariants as plans;
+
+use crate::leaf::Leaf;
+use crate::node::Node;
+use crate::operator::PlanOperator;
+use crate::port::Port;
+use pipes_flat::{Filter, Map, Union};
+use pipes_link::{Inlet, link};
+use pipes_plan::{Expr, Exprs, Plan, Schemas, copy_exprs};
+use pipes_stream::{Message, Watch};
+use pipes_time::Memory;
+use pipes_tuple::Schema;
+use std::alloc::Global;
+use std::collections::VecDeque;
+
+// A part of a plan that is built: where its root's messages come out, and the schema of their tuples.
+#[derive(Drop)]
+pub(crate) struct Part {
+    pub(crate) inlet: Inlet<Message>,
+    pub(crate) schema: Schema,
+    // the place of its root
+    pub(crate) root: usize,
+}
+
+// Where a node of the plan stands, and how much room its outlet's link has.
+#[derive(Clone, Copy, Drop)]
+pub(crate) struct Spot {
+    pub(crate) alloc: Global,
+    pub(crate) room: u32,
+    pub(crate) number: u32,
+    pub(crate) depth: u32,
+    ghost some_room: { 1 ≤ room },
+    ghost most_room: { room ≤ MOST_ROOM },
+}
+
+impl Spot {
+    // The next node in preorder.
+    fn enter(self, next: &mut u32) -> Spot {
+        let number = *next;
+        *next = number.saturating_add(1);
+        Spot {
+            alloc: self.alloc,
+            room: self.room,
+            number,
+            depth: self.depth,
+        }
+    }
+
+    // Where its children stand.
+    fn below(self) -> Spot {
+        Spot {
+            alloc: self.alloc,
+            room: self.room,
+            number: self.number,
+            depth: self.depth.saturating_add(1),
+        }
+    }
+}
+
+impl Part {
+    // The port of a node over this part.
+    fn into_port(self) -> Port
+        ensures { IsPortOf self result }
+    {
+        Port {
+            inlet: self.inlet,
+            watch: Watch::new(),
+            schema: self.schema,
+            child: self.root,
+        }
+    }
+}
+
+// Adds a node with a link of its own, and gives the end of the link that takes.
+fn add_node(
+    spot: Spot,
+    nodes: &mut Vec<Node>,
+    operator: Option<PlanOperator>,
+    ports: Vec<Port>,
+) -> Result<Inlet<Message>, Memory>
+    ensures { IfOk result (λ inlet. Adds nodes.old.items nodes.new.items operator ports.items inlet) }
+{
+    let (outlet, inlet) = link(spot.alloc, spot.room)?;
+    nodes.push(Node {
+        number: spot.number,
+        depth: spot.depth,
+        operator,
+        ports,
+        outlet,
+        pending: VecDeque::new(spot.alloc),
+        fresh: Vec::new(spot.alloc),
+        moved: 0,
+        failed: false,
+    })?;
+    Ok(inlet)
+}
+
+// A source.
+fn add_source(
+    spot: Spot,
+    nodes: &mut Vec<Node>,
+    leaves: &mut Vec<Leaf>,
+    source: u32,
+    schema: Schema,
+) -> Result<Part, Memory>
+    ensures nodes { IfOk result (λ part. Adds nodes.old.items nodes.new.items None [] part.inlet) }
+    ensures root { IfOk result (λ part. part.root ≡ length nodes.old.items) }
+    ensures schema { IfOk result (λ part. part.schema ≡ schema) }
+    ensures leaves { IfOk result (λ part. leaves.new.items ≡ leaves.old.items ++ record { node = length nodes.old.items; source = source } ∷ []) }
+{
+    let root = nodes.len();
+    leaves.push(Leaf { node: root, source })?;
+    let inlet = add_node(spot, nodes, None, Vec::new(spot.alloc))?;
+    Ok(Part {
+        inlet,
+        schema,
+        root,
+    })
+}
+
+// A node over one part.
+fn add_one(
+    spot: Spot,
+    nodes: &mut Vec<Node>,
+    operator: PlanOperator,
+    part: Part,
+    schema: Schema,
+) -> Result<Part, Memory>
+    ensures nodes { IfOk result (λ whole. AddsOver nodes.old.items nodes.new.items operator (part ∷ []) whole.inlet) }
+    ensures root { IfOk result (λ whole. whole.root ≡ length nodes.old.items) }
+    ensures schema { IfOk result (λ whole. whole.schema ≡ schema) }
+{
+    let root = nodes.len();
+    let ports = Vec::from_array(spot.alloc, [part.into_port()])?;
+    let inlet = add_node(spot, nodes, Some(operator), ports)?;
+    Ok(Part {
+        inlet,
+        schema,
+        root,
+    })
+}
+
+// A node over two parts.
+fn add_two(
+    spot: Spot,
+    nodes: &mut Vec<Node>,
+    operator: PlanOperator,
+    left: Part,
+    right: Part,
+    schema: Schema,
+) -> Result<Part, Memory>
+    ensures nodes { IfOk result (λ whole. AddsOver nodes.old.items nodes.new.items operator (left ∷ right ∷ []) whole.inlet) }
+    ensures root { IfOk result (λ whole. whole.root ≡ length nodes.old.items) }
+    ensures schema { IfOk result (λ whole. whole.schema ≡ schema) }
+{
+    let root = nodes.len();
+    let ports = Vec::from_array(spot.alloc, [left.into_port(), right.into_port()])?;
+    let inlet = add_node(spot, nodes, Some(operator), ports)?;
+    Ok(Part {
+        inlet,
+        schema,
+        root,
+    })
+}
+
+// A filter over a part.
+fn filter_over(
+    spot: Spot,
+    condition: &Expr,
+    part: Part,
+    nodes: &mut Vec<Node>,
+) -> Result<Part, Memory>
+    requires { IsTyped (plans.Filter condition.now (plans.Source 0)) (part.schema ∷ []) }
+    ensures adds { IfOk result (λ whole. AddsTask nodes.old.items nodes.new.items (filter_task condition.now part.schema) (part ∷ []) whole) }
+    ensures schema { IfOk result (λ whole. whole.schema ≡ part.schema) }
+{
+    let condition = condition.copy(spot.alloc)?;
+    let filter = Filter::new(condition, part.schema.copy()?)?;
+    let schema = part.schema.copy()?;
+    add_one(spot, nodes, PlanOperator::Filter(filter), part, schema)
+}
+
+// A map over a part, whose tuples are of the schema.
+fn map_over(
+    spot: Spot,
+    exprs: &Exprs,
+    part: Part,
+    schema: Schema,
+    nodes: &mut Vec<Node>,
+) -> Result<Part, Memory>
+    requires { IsTyped (plans.Map exprs.now (plans.Source 0)) (part.schema ∷ []) }
+    ensures adds { IfOk result (λ whole. AddsTask nodes.old.items nodes.new.items (map_task exprs.now part.schema) (part ∷ []) whole) }
+    ensures schema { IfOk result (λ whole. whole.schema ≡ schema) }
+{
+    let exprs = copy_exprs(spot.alloc, exprs)?;
+    let map = Map::new(spot.alloc, exprs, part.schema.copy()?)?;
+    add_one(spot, nodes, PlanOperator::Map(map), part, schema)
+}
+
+// A union of two parts.
+fn union_over(spot: Spot, left: Part, right: Part, nodes: &mut Vec<Node>) -> Result<Part, Memory>
+    requires { IsTyped (plans.Union (plans.Source 0) (plans.Source 1)) (left.schema ∷ left.schema ∷ []) }
+    ensures adds { IfOk result (λ whole. AddsTask nodes.old.items nodes.new.items (union_task left.schema) (left ∷ right ∷ []) whole) }
+    ensures schema { IfOk result (λ whole. whole.schema ≡ left.schema) }
+{
+    let union = Union::new(spot.alloc, left.schema.copy()?)?;
+    let schema = left.schema.copy()?;
+    add_two(spot, nodes, PlanOperator::Union(union), left, right, schema)
+}
+
+// A source, with the schema of its number.
+fn source_at(
+    spot: Spot,
+    plan: &Plan,
+    source: u32,
+    schemas: &Schemas,
+    nodes: &mut Vec<Node>,
+    leaves: &mut Vec<Leaf>,
+) -> Result<Part, Memory>
+    requires typed { IsTyped plan.now schemas.now }
+    requires source { plan.now ≡ plans.Source source }
+    ensures { IfOk result (λ part. PartBuilt schemas.now plan.now nodes.old.items nodes.new.items leaves.old.items leaves.new.items part) }
+{
+    let schema = schemas.as_slice()[source as usize].copy()?;
+    let part = add_source(spot, nodes, leaves, source, schema)?;
+    Ok(part)
+}
+
+// The schema of a typed plan.
+fn schema_of(alloc: Global, plan: &Plan, schemas: &Schemas) -> Result<Schema, Memory>
+    ensures { IfOk result (λ schema. plan_kinds plan.now schemas.now ≡ Some schema) }
+{
+    match plan.check(alloc, schemas) {
+        Ok(schema) => Ok(schema),
+        Err(_) => Err(Memory),
+    }
+}
+
+// Makes the nodes of a plan, children before their parents, and their links.
+#[cycle(build_at)]
+pub(crate) fn build_at(
+    spot: Spot,
+    next: &mut u32,
+    plan: &Plan,
+    schemas: &Schemas,
+    nodes: &mut Vec<Node>,
+    leaves: &mut Vec<Leaf>,
+) -> Result<Part, Memory>
+    requires { IsTyped plan.now schemas.now }
+    ensures { IfOk result (λ part. PartBuilt schemas.now plan.now nodes.old.items nodes.new.items leaves.old.items leaves.new.items part) }
+{
+    let spot = spot.enter(next);
+    match plan {
+        Plan::Source(source) => source_at(spot, plan, *source, schemas, nodes, leaves),
+        Plan::Filter(condition, a) => {
+            let part = build_at(spot.below(), next, a.get(), schemas, nodes, leaves)?;
+            let whole = filter_over(spot, condition, part, nodes)?;
+            Ok(whole)
+        }
+        Plan::Map(exprs, a) => {
+            let part = build_at(spot.below(), next, a.get(), schemas, nodes, leaves)?;
+            let schema = schema_of(spot.alloc, plan, schemas)?;
+            let whole = map_over(spot, exprs, part, schema, nodes)?;
+            Ok(whole)
+        }
+        Plan::Union(a, b) => {
+            let left = build_at(spot.below(), next, a.get(), schemas, nodes, leaves)?;
+            let right = build_at(spot.below(), next, b.get(), schemas, nodes, leaves)?;
+            let whole = union_over(spot, left, right, nodes)?;
+            Ok(whole)
+        }
+        _ => Err(Memory),
+    }
+}

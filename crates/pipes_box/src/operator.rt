@@ -1,0 +1,58 @@
+// The operators of a plan, in one type.
+use pipes_flat::{Filter, Map, Union};
+use pipes_stream::{Message, Operator};
+use pipes_time::Memory;
+
+/// The operator of a plan's node that is no source.
+#[derive(Drop)]
+pub enum PlanOperator {
+    Filter(Filter),
+    Map(Map),
+    Union(Union),
+}
+
+impl Operator for PlanOperator {
+    ghost use Rattle.pipes_box.specs.Operators.{task_of, StandsFor, has_failed, held_by, lawful_of};
+
+    ghost task = { task_of };
+
+    ghost stands = { StandsFor };
+
+    ghost failed = { has_failed };
+
+    ghost held_count = { held_by };
+
+    ghost lawful = { lawful_of };
+
+    fn ports(&self) -> u32 {
+        match self {
+            PlanOperator::Filter(filter) => filter.ports(),
+            PlanOperator::Map(map) => map.ports(),
+            PlanOperator::Union(union) => union.ports(),
+        }
+    }
+
+    fn take(&mut self, port: u32, message: Message, out: &mut Vec<Message>) -> Result<(), Memory> {
+        match self {
+            PlanOperator::Filter(filter) => filter.take(port, message, out),
+            PlanOperator::Map(map) => map.take(port, message, out),
+            PlanOperator::Union(union) => union.take(port, message, out),
+        }
+    }
+
+    fn beat_now(&self) -> u64 {
+        match self {
+            PlanOperator::Filter(filter) => filter.beat_now(),
+            PlanOperator::Map(map) => map.beat_now(),
+            PlanOperator::Union(union) => union.beat_now(),
+        }
+    }
+
+    fn held(&self) -> u64 {
+        match self {
+            PlanOperator::Filter(filter) => filter.held(),
+            PlanOperator::Map(map) => map.held(),
+            PlanOperator::Union(union) => union.held(),
+        }
+    }
+}

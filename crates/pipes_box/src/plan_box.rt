@@ -1,0 +1,197 @@
+// A plan at work.
+ghost use Rattle.std.specs.Prelude.{◌≡◌, ◌≤◌, ◌<◌, ◌++◌, ◌∷◌, [], ℕ, List, All, length, get_or, true, false, IfOk, IfErr, IfSome, IfNone, OnOk, OnErr, OnSome, IsErr, IsOk};
+ghost use Rattle.std.specs.Bool.{OnTrue};
+ghost use Rattle.pipes_tuple.specs.declared.value.Kind.{Kind};
+ghost use Rattle.pipes_link.specs.declared.TheConstants.{MOST_ROOM};
+ghost use Rattle.pipes_stream.specs.declared.message.Message.{Message as Sent};
+ghost use Rattle.pipes_stream.specs.Lawful.{Lists, no_messages, with_message};
+ghost use Rattle.pipes_plan.specs.declared.plan.Plan.{Plan as Tree};
+ghost use Rattle.pipes_plan.specs.PlanKinds.{IsTyped};
+ghost use Rattle.pipes_box.specs.Shapes.{is_built, shape_of, Answers};
+
+use crate::build::{Part, Spot, build_at};
+use crate::leaf::Leaf;
+use crate::node::Node;
+use crate::settling::settle_all;
+use crate::turning::turn_all;
+use pipes_edge::Gate;
+use pipes_link::{Full, Inlet, settle};
+use pipes_plan::{Plan, Schemas};
+use pipes_stream::Message;
+use pipes_time::Memory;
+use std::alloc::Global;
+use std::thread::Threads;
+
+/// A plan at work: a node for each of its nodes, with links between them. What is given at its leaves comes out at the top as the plan's
+/// answer.
+#[derive(Drop)]
+pub struct PlanBox {
+    nodes: Vec<Node>,
+    top: Inlet<Message>,
+    leaves: Vec<Leaf>,
+    failed: bool,
+}
+
+// Whether memory was refused to a node.
+fn has_failed(nodes: &[Node]) -> bool
+    ensures { result ≡ false → (k : ℕ) (d : Node) → k < length nodes.now → (get_or nodes.now k d).failed ≡ false }
+{
+    for k in 0..nodes.len() {
+        if nodes[k].failed {
+            return true;
+        }
+    }
+    false
+}
+
+// How many messages moved in the nodes' last turns.
+fn total_moved(nodes: &[Node]) -> u64
+    ensures { result ≡ 0 → (k : ℕ) (d : Node) → k < length nodes.now → (get_or nodes.now k d).moved ≡ 0 }
+{
+    let mut moved: u64 = 0;
+    for k in 0..nodes.len() {
+        moved = moved.saturating_add(nodes[k].moved);
+    }
+    moved
+}
+
+impl PlanBox {
+    ghost use Rattle.pipes_box.specs.Boxes.{BoxStands, IsSound, GivesOne, StaysAsBefore, TakesOne};
+    ghost use Rattle.pipes_box.specs.declared.leaf.Leaf.{Leaf as Place};
+
+    /// A plan at work, whose links have room for so many messages each.
+    pub fn build(
+        alloc: Global,
+        plan: &Plan,
+        schemas: &Schemas,
+        room: u32,
+    ) -> Result<PlanBox, Memory>
+        requires typed { IsTyped plan.now schemas.now }
+        requires built { is_built plan.now ≡ true }
+        requires some_room { 1 ≤ room }
+        requires most_room { room ≤ MOST_ROOM }
+        ensures sound { IfOk result (λ b. IsSound b) }
+        ensures stands { IfOk result (λ b. BoxStands b schemas.now plan.now no_messages []) }
+    {
+        let spot = Spot {
+            alloc,
+            room,
+            number: 0,
+            depth: 0,
+        };
+        let mut next = 0;
+        let mut nodes = Vec::new(alloc);
+        let mut leaves = Vec::new(alloc);
+        let part = build_at(spot, &mut next, plan, schemas, &mut nodes, &mut leaves)?;
+        Ok(PlanBox {
+            nodes,
+            top: part.inlet,
+            leaves,
+            failed: false,
+        })
+    }
+
+    /// What has come out at the top is the plan's answer to what was given at the leaves: a law, and nothing to run.
+    pub fn answers(&self)
+        requires { IsSound self.now }
+        ensures { (schemas : List (List Kind)) (plan : Tree) (given : Lists) (got : List Sent) → BoxStands self.now schemas plan given got
+            → Answers (shape_of schemas plan) 0 given got }
+    {}
+
+    // Settles the link of each node's port.
+    fn settle_links(&mut self)
+        requires { IsSound self.old }
+        ensures sound { IsSound self.new }
+        ensures stands { StaysAsBefore self.old self.new }
+        ensures going { self.new.failed ≡ self.old.failed }
+    {
+        settle_all(self.nodes.as_mut_slice());
+    }
+
+    // Gives each node its turn, and notes whether memory was refused.
+    fn turn_nodes<R: Threads + Sync, G: Gate>(&mut self, rt: &R, workers: u32, gate: &G)
+        requires sound { IsSound self.old }
+        requires some { 1 ≤ workers }
+        ensures sound { IsSound self.new }
+        ensures stands { self.new.failed ≡ false → StaysAsBefore self.old self.new }
+    {
+        turn_all(rt, self.nodes.as_mut_slice(), workers, gate);
+        self.failed = has_failed(self.nodes.as_slice());
+    }
+
+    // Settles the top link.
+    fn settle_top(&mut self)
+        requires { IsSound self.old }
+        ensures sound { IsSound self.new }
+        ensures stands { StaysAsBefore self.old self.new }
+        ensures going { self.new.failed ≡ self.old.failed }
+    {
+        let root = self.nodes.as_slice().len() - 1;
+        settle(&mut self.nodes[root].outlet, &mut self.top);
+    }
+
+    /// A round: each link is settled, and each node has one turn, shared out among at most so many threads. With one worker no thread
+    /// is started. What came to the top can be taken then. Answers how many messages moved, clamped to 64 bits. After out of memory
+    /// each round answers it.
+    pub fn round<R: Threads + Sync, G: Gate>(
+        &mut self,
+        rt: &R,
+        workers: u32,
+        gate: &G,
+    ) -> Result<u64, Memory>
+        requires sound { IsSound self.old }
+        requires some { 1 ≤ workers }
+        requires most { workers ≤ 16 }
+        ensures sound { IsSound self.new }
+        ensures stands { OnOk result (StaysAsBefore self.old self.new) }
+        ensures memory { OnErr result (self.new.failed ≡ true) }
+        ensures stays_failed { OnTrue self.old.failed (IsErr result) }
+    {
+        if self.failed {
+            return Err(Memory);
+        }
+        self.settle_links();
+        self.turn_nodes(rt, workers, gate);
+        if self.failed {
+            return Err(Memory);
+        }
+        self.settle_top();
+        Ok(total_moved(self.nodes.as_slice()))
+    }
+
+    /// Takes the next message from the top, of those that the last round brought there.
+    pub fn take(&mut self) -> Option<Message>
+        requires { IsSound self.old }
+        ensures sound { IsSound self.new }
+        ensures took { IfSome result (λ message. TakesOne self.old self.new message) }
+        ensures none { IfNone result (self.new ≡ self.old) }
+        ensures going { self.new.failed ≡ self.old.failed }
+    {
+        self.top.take_known()
+    }
+
+    /// Gives a message at a leaf, unless its link has no free place: then the message comes back. Leaves are numbered in preorder, from 0.
+    pub fn give(&mut self, leaf: u32, message: Message) -> Result<(), Full<Message>>
+        requires sound { IsSound self.old }
+        requires in_range { leaf < length self.old.leaves.items }
+        ensures sound { IsSound self.new }
+        ensures gave { OnOk result (GivesOne self.old self.new leaf message) }
+        ensures full { IfErr result (λ full. full.0 ≡ message) }
+        ensures refused { OnErr result (StaysAsBefore self.old self.new) }
+        ensures going { self.new.failed ≡ self.old.failed }
+    {
+        let place = self.leaves[leaf as usize].node;
+        match self.nodes[place].outlet.put(message) {
+            Ok(()) => Ok(()),
+            Err(full) => Err(full),
+        }
+    }
+
+    /// The number of the source of a leaf.
+    pub fn leaf_source(&self, leaf: u32) -> u32
+        requires { leaf < length self.now.leaves.items }
+        ensures { (d : Place) → result ≡ (get_or self.now.leaves.items leaf d).source }
+    {
+        self.leaves[leaf as usize].source
+    }
+}

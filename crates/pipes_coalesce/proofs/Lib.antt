@@ -1,0 +1,14 @@
+pub mod Weights
+pub mod Filing
+pub mod Touching
+pub mod Pairs
+pub mod Steps
+pub mod Coming
+pub mod Leaving
+pub mod Moving
+pub mod Passing
+pub mod Sending
+pub mod Advancing
+pub mod Admitting
+pub mod Settling
+pub mod Law

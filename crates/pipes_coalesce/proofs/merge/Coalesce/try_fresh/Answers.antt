@@ -1,0 +1,18 @@
+use Rattle.std.proofs.Common.{[], List, subst}
+use Rattle.pipes_stream.specs.declared.message.Message.{Message}
+use Rattle.pipes_coalesce.specs.Stands.{TakesFresh}
+use Rattle.pipes_coalesce.proofs.Settling.{fresh-over}
+use Rattle.pipes_coalesce.proofs.merge.Coalesce.try_fresh.Goals as goal
+
+pub returns-clause-takes : goal.returns-clause-takes
+returns-clause-takes c =
+    let b = c.buffer-sent.new.self in
+    let e = c.step_fresh.new.self in
+    let sent = c.step_fresh.new.out.items in
+    let takes = subst
+    (λ (ms : List Message). TakesFresh b e c.args.message ms sent) c.buffer-sent.ensures.empty
+    c.in_ok-step_fresh.ensures.takes in
+    fresh-over c.args.self.now b e c.hand_over.new.self c.args.message sent c.args.out.now.items
+    c.hand_over.new.out.items c.buffer-sent.ensures.same.same
+    c.buffer-sent.ensures.same.olds takes c.in_ok-hand_over.ensures.same
+    c.in_ok-hand_over.ensures.sent

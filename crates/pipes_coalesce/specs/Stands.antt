@@ -1,0 +1,258 @@
+-- What a Coalesce stands for, and what its calls do.
+use Rattle.std.specs.Prelude.{ℕ, ◌≡◌, ◌≤◌, ◌<◌, ◌+◌, ◌⊎◌, Bool, true, false, cond, nat_lt, ◌&&◌, max, min, List, [], ◌∷◌, ◌++◌, length, ⊤}
+use Rattle.pipes_time.specs.Interval.{closed, IsInterval}
+use Rattle.pipes_tuple.specs.declared.value.Value.{Value}
+use Rattle.pipes_stream.specs.declared.Elem.{Elem}
+use Rattle.pipes_stream.specs.declared.message.Message.{Message}
+use Rattle.pipes_stream.specs.declared.message.Message.TheVariants as message
+use Rattle.pipes_stream.specs.Lists.{CanFollow, after, run, start_of_list, Valid, beat, elements}
+use Rattle.pipes_coalesce.specs.Bags.{weigh}
+use Rattle.pipes_coalesce.specs.Tests.{if_so, starts_below, starts_above, starts_by, starts_elsewhere, ends_above, ends_at, ends_elsewhere, is_no_interval, touching}
+use Rattle.pipes_coalesce.specs.Filed.{has_tuple}
+use Rattle.pipes_coalesce.specs.Merging.{Bags}
+use Rattle.pipes_coalesce.specs.Merged.{Merged}
+use Rattle.pipes_coalesce.specs.declared.merge.Coalesce.{Coalesce}
+
+-- an old element ends at or below the split, and a fresh one starts at or above it
+abbrev pub EndsBy : ℕ → Message → Type 0
+EndsBy split (message.Elem e) = e.span.end ≤ split
+EndsBy split (message.Beat at) = ⊤
+EndsBy split message.End = ⊤
+
+abbrev pub StartsFrom : ℕ → Message → Type 0
+StartsFrom split (message.Elem e) = split ≤ e.span.start
+StartsFrom split (message.Beat at) = ⊤
+StartsFrom split message.End = ⊤
+
+abbrev pub lone_from : List Elem → ℕ → ℕ
+lone_from [] s = closed
+lone_from (e ∷ es) s = s
+
+-- The heartbeat: the least of the old side's, of the start of the old elements that wait for a
+-- partner, and of the greater of the
+-- split and the fresh side's.
+abbrev pub now_of : Coalesce → ℕ
+now_of c = min c.old_watch.beat
+    (min (lone_from c.lone c.lone_start) (max c.split c.fresh_watch.beat))
+
+abbrev pub held_of : Coalesce → ℕ
+held_of c = length c.olds + (length c.lone + (length c.partners + length c.later))
+
+abbrev pub IsOver : Coalesce → Type 0
+IsOver c = (c.old_watch.ended ≡ true)
+    × ((c.split < c.fresh_watch.beat) ⊎ (c.fresh_watch.ended ≡ true)) × (held_of c ≡ 0)
+
+-- The sent list is the old one before the split and the fresh one from it on, for all lists for
+-- which the Coalesce stands.
+abbrev pub IsMergedFor : Coalesce → (List Message → List Message → List Message → Type 0) → Type 0
+IsMergedFor c Stands =
+    (olds fresh sent : List Message) → Stands olds fresh sent
+    → Merged c.split olds fresh sent (held_of c)
+
+-- ---- the state, by its lists; the rest of this file is for private functions
+abbrev pub RisesFrom : ℕ → List Elem → Type 0
+RisesFrom b [] = ⊤
+RisesFrom b (e ∷ es) = (b ≤ e.span.start) × IsInterval e.span.start e.span.end
+    × RisesFrom e.span.start es
+
+abbrev pub number : List Elem → ℕ
+number es = weigh (λ _. 1) es
+
+-- The old elements `olds` wait behind those of `lone`, which wait for a partner and all start at s.
+-- The fresh elements `partners`
+-- start at the split and `later` above it. The sides' heartbeats are ob and fb, and that of what
+-- was sent is b.
+pub record Parts (split ob fb b s : ℕ)
+    (olds lone partners later old_ones fresh_ones sent : List Elem) : Type 0 where
+  pub old_beat : b ≤ ob
+  pub fresh_beat : b ≤ max split fb
+  pub olds_rise : RisesFrom b olds
+  pub olds_low : weigh (starts_above ob) olds ≡ 0
+  pub olds_end : weigh (ends_above split) olds ≡ 0
+  pub lone_at : weigh (starts_elsewhere s) lone ≡ 0
+  pub lone_end : weigh (ends_elsewhere split) lone ≡ 0
+  pub lone_are : weigh is_no_interval lone ≡ 0
+  pub lone_low : 0 < number lone → (b ≤ s) × (s ≤ ob) × (s < split) × RisesFrom s olds
+  pub partners_at : weigh (starts_elsewhere split) partners ≡ 0
+  pub partners_low : 0 < number partners → b ≤ split
+  pub partners_are : weigh is_no_interval partners ≡ 0
+  pub later_rise : RisesFrom b later
+  pub later_high : weigh (starts_by split) later ≡ 0
+  pub later_low : weigh (starts_above fb) later ≡ 0
+  pub sent_low : weigh (starts_above b) sent ≡ 0
+  pub early : fb ≤ split → weigh (ends_at split) sent ≡ 0
+  pub apart : touching split (sent ++ (lone ++ partners)) ≡ 0
+  pub bags : Bags split old_ones fresh_ones (sent ++ (olds ++ (lone ++ (partners ++ later))))
+
+-- between the steps of a call
+pub record Flows (c : Coalesce) (waiting : List Elem)
+    (olds fresh sent : List Message) : Type 0 where
+  pub going : c.failed ≡ false
+  pub old_valid : Valid olds
+  pub fresh_valid : Valid fresh
+  pub old_watch : c.old_watch ≡ run start_of_list olds
+  pub fresh_watch : c.fresh_watch ≡ run start_of_list fresh
+  pub old_low : weigh (ends_above c.split) (elements olds) ≡ 0
+  pub fresh_high : weigh (starts_below c.split) (elements fresh) ≡ 0
+  pub sent_valid : Valid sent
+  pub unended : (run start_of_list sent).ended ≡ false
+  pub parts : Parts c.split c.old_watch.beat c.fresh_watch.beat
+      (beat sent) c.lone_start waiting c.lone c.partners c.later
+      (elements olds) (elements fresh) (elements sent)
+
+-- What could go was sent.
+pub record IsSettled (c : Coalesce) : Type 0 where
+  pub opened : c.split < c.fresh_watch.beat → c.lone ≡ []
+  pub passed : c.lone ≡ [] → c.olds ≡ []
+  pub partners_gone : c.split ≤ now_of c → c.partners ≡ []
+  pub later_gone : weigh (starts_by (now_of c)) c.later ≡ 0
+
+-- between the steps of a call, the fresh side's heartbeat being this
+pub record FreshFlows (c : Coalesce) (fresh_beat : ℕ) (old_ones fresh_ones : List Elem)
+    (sent : List Message) : Type 0 where
+  pub sent_valid : Valid sent
+  pub unended : (run start_of_list sent).ended ≡ false
+  pub parts : Parts c.split c.old_watch.beat fresh_beat
+      (beat sent) c.lone_start c.olds c.lone c.partners c.later
+      old_ones fresh_ones (elements sent)
+
+-- A Coalesce stands for the lists of both sides and the list that it sent.
+pub record CoalesceStands (c : Coalesce) (olds fresh sent : List Message) : Type 0 where
+  pub going : c.failed ≡ false
+  pub old_valid : Valid olds
+  pub fresh_valid : Valid fresh
+  pub old_watch : c.old_watch ≡ run start_of_list olds
+  pub fresh_watch : c.fresh_watch ≡ run start_of_list fresh
+  pub old_low : weigh (ends_above c.split) (elements olds) ≡ 0
+  pub fresh_high : weigh (starts_below c.split) (elements fresh) ≡ 0
+  pub sent_valid : Valid sent
+  pub sent_beat : beat sent ≡ now_of c
+  pub sent_ended : (run start_of_list sent).ended ≡ (c.old_watch.ended && c.fresh_watch.ended)
+  pub parts : Parts c.split c.old_watch.beat c.fresh_watch.beat
+      (beat sent) c.lone_start c.olds c.lone c.partners c.later
+      (elements olds) (elements fresh) (elements sent)
+  pub settled : IsSettled c
+
+abbrev pub IsMerged : Coalesce → Type 0
+IsMerged c = IsMergedFor c (CoalesceStands c)
+
+pub record Stays (c d : Coalesce) : Type 0 where
+  pub split : d.split ≡ c.split
+  pub failed : d.failed ≡ c.failed
+  pub old_watch : d.old_watch ≡ c.old_watch
+  pub fresh_watch : d.fresh_watch ≡ c.fresh_watch
+
+-- from the one state to the other, `waiting` and `left` being the old elements that wait, messages
+-- were sent
+pub record Moves (c d : Coalesce) (waiting left : List Elem)
+    (before now : List Message) : Type 0 where
+  pub stays : Stays c d
+  pub more : List Message
+  pub appended : now ≡ before ++ more
+  pub flows : (olds fresh sent : List Message) → Flows c waiting olds fresh sent
+      → Flows d left olds fresh (sent ++ more)
+  pub opened : c.split < c.fresh_watch.beat → c.lone ≡ [] → d.lone ≡ []
+
+-- an element of all that waits starts where the lone ones do, if there are any
+abbrev pub CanPass : Coalesce → Elem → Type 0
+CanPass c e = 0 < number c.lone → e.span.start ≡ c.lone_start
+
+-- nothing else was changed
+pub record SameBut (c d : Coalesce) : Type 0 where
+  pub stays : Stays c d
+  pub lone : d.lone ≡ c.lone
+  pub lone_start : d.lone_start ≡ c.lone_start
+  pub partners : d.partners ≡ c.partners
+  pub later : d.later ≡ c.later
+
+-- the next old element that can pass was taken out
+pub record IsNext (c d : Coalesce) (e : Elem) : Type 0 where
+  pub same : SameBut c d
+  pub olds : c.olds ≡ e ∷ d.olds
+  pub passes : CanPass d e
+
+abbrev pub LacksTuple : List Value → List Elem → Type 0
+LacksTuple t es = weigh (has_tuple t) es ≡ 0
+
+-- no old element can pass
+pub record IsBlocked (c : Coalesce) : Type 0 where
+  pub passed : c.lone ≡ [] → c.olds ≡ []
+
+pub record AdmitsOld (c d : Coalesce) (m : Message) : Type 0 where
+  pub split : d.split ≡ c.split
+  pub failed : d.failed ≡ c.failed
+  pub flows : (olds fresh sent : List Message) → Flows c c.olds olds fresh sent
+      → CanFollow (run start_of_list olds) m
+      → EndsBy c.split m → Flows d d.olds (olds ++ m ∷ []) fresh sent
+
+-- a fresh element came, and the fresh watch has seen it before
+pub record AdmitsElem (c d : Coalesce) (e : Elem) (before now : List Message) : Type 0 where
+  pub stays : Stays c d
+  pub olds : d.olds ≡ c.olds
+  pub more : List Message
+  pub appended : now ≡ before ++ more
+  pub flows : (was : ℕ) (old_ones fresh_ones : List Elem) (sent : List Message)
+      → FreshFlows c was old_ones fresh_ones sent → was ≤ e.span.start → c.split ≤ e.span.start
+      → IsInterval e.span.start e.span.end
+      → FreshFlows d e.span.start old_ones (fresh_ones ++ e ∷ []) (sent ++ more)
+
+pub record AdmitsFresh (c d : Coalesce) (m : Message) (before now : List Message) : Type 0 where
+  pub split : d.split ≡ c.split
+  pub failed : d.failed ≡ c.failed
+  pub more : List Message
+  pub appended : now ≡ before ++ more
+  pub flows : (olds fresh sent : List Message) → Flows c c.olds olds fresh sent
+      → CanFollow (run start_of_list fresh) m
+      → StartsFrom c.split m → Flows d d.olds olds (fresh ++ m ∷ []) (sent ++ more)
+
+-- the next fresh element above the split was taken out, and is due
+pub record IsDue (c d : Coalesce) (at : ℕ) (e : Elem) : Type 0 where
+  pub stays : Stays c d
+  pub olds : d.olds ≡ c.olds
+  pub lone : d.lone ≡ c.lone
+  pub lone_start : d.lone_start ≡ c.lone_start
+  pub partners : d.partners ≡ c.partners
+  pub rest : c.later ≡ e ∷ d.later
+  pub due : e.span.start ≤ at
+
+-- fresh elements that are due at the instant were sent
+pub record Releases (c d : Coalesce) (at : ℕ) (before now : List Message) : Type 0 where
+  pub moves : Moves c d c.olds d.olds before now
+  pub olds : d.olds ≡ c.olds
+  pub lone : d.lone ≡ c.lone
+  pub lone_start : d.lone_start ≡ c.lone_start
+  pub within : (olds fresh sent : List Message) → Flows c c.olds olds fresh sent → beat sent ≤ at
+      → beat (sent ++ moves.more) ≤ at
+
+-- what is told after the elements
+abbrev pub tell : ℕ → ℕ → Bool → List Message
+tell told now true = message.End ∷ []
+tell told now false = cond (nat_lt told now) (message.Beat now ∷ []) []
+
+-- all that can go was sent, and how far that is was told
+pub record Settles (c d : Coalesce) (told : ℕ) (before now : List Message) : Type 0 where
+  pub stays : Stays c d
+  pub more : List Message
+  pub appended : now ≡ before ++ more
+  pub stands : (olds fresh sent : List Message) → Flows c c.olds olds fresh sent → told ≤ beat sent
+      → CoalesceStands d olds fresh (sent ++ more)
+
+-- a message of one side was taken, and messages were put behind those that were there
+pub record TakesOld (c d : Coalesce) (m : Message) (before now : List Message) : Type 0 where
+  pub more : List Message
+  pub appended : now ≡ before ++ more
+  pub stands : (olds fresh sent : List Message) → CoalesceStands c olds fresh sent
+      → CanFollow (run start_of_list olds) m
+      → EndsBy c.split m → CoalesceStands d (olds ++ m ∷ []) fresh (sent ++ more)
+
+pub record TakesFresh (c d : Coalesce) (m : Message) (before now : List Message) : Type 0 where
+  pub more : List Message
+  pub appended : now ≡ before ++ more
+  pub stands : (olds fresh sent : List Message) → CoalesceStands c olds fresh sent
+      → CanFollow (run start_of_list fresh) m
+      → StartsFrom c.split m → CoalesceStands d olds (fresh ++ m ∷ []) (sent ++ more)
+
+-- all is as it was, but the buffer of what was sent
+pub record HandsOver (c d : Coalesce) : Type 0 where
+  pub same : SameBut c d
+  pub olds : d.olds ≡ c.olds

@@ -1,0 +1,6 @@
+use Rattle.std.proofs.Common.{refl}
+use Rattle.pipes_flat.specs.UnionLaw.{takes_right}
+use Rattle.pipes_flat.proofs.union.Union.take_right.Goals as goal
+
+pub returns-clause-takes : goal.returns-clause-takes
+returns-clause-takes c = takes_right c.args.self.now _ _ c.args.message c.least-told.result _ _ c.least-told.ensures refl refl c.step.ensures.follows refl c.in_ok-keep.ensures c.in_ok-send.ensures.sends

@@ -1,0 +1,9 @@
+pub mod Tasks
+pub mod Typed
+pub mod Each
+pub mod EachLaw
+pub mod Filters
+pub mod Maps
+pub mod Unions
+pub mod UnionLaw
+pub mod OneByOne

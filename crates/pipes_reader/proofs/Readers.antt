@@ -1,0 +1,263 @@
+-- What holds of a reader, and of two readers in turn.
+use Rattle.std.proofs.Common.{◌≡◌, Bool, true, false, List, [], ◌∷◌, ◌++◌, Option, None, Result, Ok, Err, refl, sym, ap, subst, ◌∙◌, append_assoc}
+use Rattle.std.proofs.lemmas.List.{append-nil}
+use Rattle.pipes_token.specs.declared.refusal.Refusal.{Refusal}
+use Rattle.pipes_token.specs.declared.token.TokenKind.{TokenKind}
+use Rattle.pipes_token.specs.declared.token.Token.{Token}
+use Rattle.pipes_reader.specs.Reading.{Reads, ◌>>=◌, kinds_of, in_turn}
+use Rattle.pipes_reader.specs.Sentences.{Grammar, GrammarBefore, Begins, next_of, ahead, Prefix, has_last}
+use Rattle.pipes_reader.specs.Places.{Refusals, AtToken, there, inside}
+use Rattle.pipes_reader.proofs.TokenLists.{kinds-append, split, next-append, next-same, both_unended, last_after}
+
+-- A refusal at a token: what is before it begins a sentence, and it is the same whatever follows.
+pub record RefusedAt {A B : Type 0} (Is : Grammar A) (Where : Refusals)
+    (read : List Token → Result B Refusal) (ts : List Token) (r : Refusal) : Type 0 where
+  pub before : List Token
+  pub refused : Token
+  pub after : List Token
+  pub parts : ts ≡ before ++ (refused ∷ after)
+  pub begins : Begins Is (kinds_of before)
+  pub stands : (other : List Token) → read (before ++ (refused ∷ other)) ≡ Err r
+  pub place : Where before refused r
+
+-- Is: the grammar without limits. In: its sentences within the limits, each before the tokens
+-- before
+-- which it may be.
+pub record IsReader {A : Type 0} (Is : Grammar A) (In : GrammarBefore A) (Where : Refusals)
+    (read : Reads A) : Type 0 where
+  -- what is read is a sentence,
+  pub found : (ts : List Token) (x : A) (rest : List Token) → read ts ≡ Ok (x, rest)
+      → Prefix In x ts rest
+  -- each sentence is read,
+  pub only : (x : A) (front rest : List Token) → In x (kinds_of front) (next_of rest)
+      → read (front ++ rest) ≡ Ok (x, rest)
+  pub wider : (x : A) (ks : List TokenKind) (h : Option TokenKind) → In x ks h → Is x ks
+  -- none has the last token of a text,
+  pub unended : (x : A) (ks : List TokenKind) → Is x ks → has_last ks ≡ false
+  -- and before that one a refusal comes at the first token with which nothing goes on.
+  pub first : (ts : List Token) (r : Refusal) → has_last (kinds_of ts) ≡ true → read ts ≡ Err r
+      → RefusedAt Is Where read ts r
+
+-- ---- one sentence after the other
+
+pub data Then {A B : Type 0} (Is : Grammar A) (Next : A → Grammar B) : B → List TokenKind
+    → Type 0 where
+  both : (x : A) (y : B) (ks ls : List TokenKind) → Is x ks → Next x y ls
+      → Then Is Next y (ks ++ ls)
+
+-- the first is before what comes first of the second and of what follows both
+pub data ThenBefore {A B : Type 0} (In : GrammarBefore A) (NextIn : A → GrammarBefore B)
+    : B → List TokenKind → Option TokenKind → Type 0 where
+  turn : (x : A) (y : B) (ks ls : List TokenKind) (h : Option TokenKind) → In x ks (ahead ls h)
+      → NextIn x y ls h → ThenBefore In NextIn y (ks ++ ls) h
+
+module _ {A B : Type 0} (Is : Grammar A) (Next : A → Grammar B)
+    (some : (x : A) (ks : List TokenKind) → Is x ks → Begins (Next x) []) where
+  -- a sentence that begins with these is begun, and can be ended
+  pub ended : (ks : List TokenKind) → Begins Is ks → Begins (Then Is Next) ks
+  ended ks (x, more, is) =
+      let n = some x (ks ++ more) is in
+      let whole = both x n.0 (ks ++ more) n.1 is n.2 in (
+        n.0,
+        more ++ n.1,
+        subst (λ (z : List TokenKind). Then Is Next n.0 z)
+            (append_assoc ks more n.1) whole,
+      )
+
+  -- after the first sentence the next one is begun
+  pub moved : (x : A) (ks us : List TokenKind) → Is x ks → Begins (Next x) us
+      → Begins (Then Is Next) (ks ++ us)
+  moved x ks us is (y, more, after) =
+      let whole = both x y ks (us ++ more) is after in (
+        y,
+        more,
+        subst (λ (z : List TokenKind). Then Is Next y z)
+            (sym (append_assoc ks us more)) whole,
+      )
+
+module _ {A B : Type 0} (Is : Grammar A) (In : GrammarBefore A) (Next : A → Grammar B)
+    (NextIn : A → GrammarBefore B) (First : Refusals) (Second : A → Refusals) (Where : Refusals)
+    (read : Reads A) (next : A → Reads B) (one : IsReader Is In First read)
+    (two : (x : A) (ks : List TokenKind) → Is x ks
+    → IsReader (Next x) (NextIn x) (Second x) (next x))
+    (some : (x : A) (ks : List TokenKind) → Is x ks → Begins (Next x) [])
+    (place_first : (before : List Token) (t : Token) (r : Refusal) → First before t r
+    → Where before t r)
+    (place_second : (x : A) (front before : List Token) (t : Token) (r : Refusal)
+    → In x (kinds_of front) (next_of (before ++ (t ∷ []))) → Second x before t r
+    → Where (front ++ before) t r) where
+  found_both : (ts : List Token) (y : B) (rest : List Token) (q : Result (A × List Token) Refusal)
+      → read ts ≡ q → (q >>= λ x. next x.0 x.1) ≡ Ok (y, rest)
+      → Prefix (ThenBefore In NextIn) y ts rest
+  found_both ts y rest (Ok (x, us)) is e =
+      let f = one.found ts x us is in
+      let wide = one.wider x (kinds_of f.0) (next_of us) f.1 in
+      let g = (two x (kinds_of f.0) wide).found us y rest e in
+      let after : next_of us ≡ ahead (kinds_of g.0) (next_of rest) =
+      ap (λ (z : List Token). next_of z) g.2 ∙ next-append g.0 rest in
+      let here = subst (λ (z : Option TokenKind). In x (kinds_of f.0) z) after f.1 in
+      let whole = turn x y (kinds_of f.0) (kinds_of g.0) (next_of rest) here g.1 in (
+        f.0 ++ g.0,
+        subst (λ (z : List TokenKind). ThenBefore In NextIn y z (next_of rest))
+            (sym (kinds-append f.0 g.0)) whole,
+        f.2 ∙ ap (λ (z : List Token). f.0 ++ z) g.2 ∙ sym (append_assoc f.0 g.0 rest),
+      )
+  found_both ts y rest (Err r) is e = absurd cc
+
+  only_both : (y : B) (ks : List TokenKind) (h : Option TokenKind) → ThenBefore In NextIn y ks h
+      → (front rest : List Token) → ks ≡ kinds_of front → h ≡ next_of rest
+      → in_turn read next (front ++ rest) ≡ Ok (y, rest)
+  only_both _ _ _ (turn x y ks ls h is later) front rest e f =
+      let p = split ks ls front e in
+      let after : ahead ls h ≡ next_of (p.back ++ rest) =
+      ap (λ (z : List TokenKind). ahead z h) p.back_kinds
+      ∙ ap (λ (z : Option TokenKind). ahead (kinds_of p.back) z) f
+      ∙ sym (next-append p.back rest) in
+      let here : In x (kinds_of p.front) (next_of (p.back ++ rest)) =
+      subst (λ (z : Option TokenKind). In x (kinds_of p.front) z) after
+      (subst (λ (z : List TokenKind). In x z (ahead ls h)) p.front_kinds is) in
+      let there : NextIn x y (kinds_of p.back) (next_of rest) =
+      subst (λ (z : Option TokenKind). NextIn x y (kinds_of p.back) z) f
+      (subst (λ (z : List TokenKind). NextIn x y z h) p.back_kinds later) in
+      let first = one.only x p.front (p.back ++ rest) here in
+      let second = (two x ks (one.wider x ks (ahead ls h) is)).only y p.back rest there in
+      let parts : front ++ rest ≡ p.front ++ (p.back ++ rest) =
+      ap (λ (z : List Token). z ++ rest) p.parts ∙ append_assoc p.front p.back rest in
+      rw (parts, first) second
+
+  wider_both : (y : B) (ks : List TokenKind) (h : Option TokenKind) → ThenBefore In NextIn y ks h
+      → Then Is Next y ks
+  wider_both _ _ _ (turn x y ks ls h is later) =
+      let wide = one.wider x ks (ahead ls h) is in
+      both x y ks ls wide ((two x ks wide).wider y ls h later)
+
+  unended_both : (y : B) (ks : List TokenKind) → Then Is Next y ks → has_last ks ≡ false
+  unended_both _ _ (both x y ks ls is later) =
+      both_unended ks ls (one.unended x ks is) ((two x ks is).unended y ls later)
+
+  at_first : (ts : List Token) (r : Refusal) → RefusedAt Is First read ts r
+      → RefusedAt (Then Is Next) Where (in_turn read next) ts r
+  at_first ts r s = record {
+    before = s.before;
+    refused = s.refused;
+    after = s.after;
+    parts = s.parts;
+    begins = ended Is Next some (kinds_of s.before) s.begins;
+    stands = λ other. rw (s.stands other) refl;
+    place = place_first s.before s.refused r s.place;
+  }
+
+  at_second : (ts : List Token) (r : Refusal) (x : A) (front us : List Token)
+      → In x (kinds_of front) (next_of us) → ts ≡ front ++ us
+      → RefusedAt (Next x) (Second x) (next x) us r
+      → RefusedAt (Then Is Next) Where (in_turn read next) ts r
+  at_second ts r x front us w parts s = record {
+    before = front ++ s.before;
+    refused = s.refused;
+    after = s.after;
+    parts = parts ∙ ap (λ (z : List Token). front ++ z) s.parts
+        ∙ sym (append_assoc front s.before (s.refused ∷ s.after));
+    begins = subst (λ (z : List TokenKind). Begins (Then Is Next) z)
+        (sym (kinds-append front s.before))
+        (moved Is Next some x (kinds_of front) (kinds_of s.before) wide s.begins);
+    stands = λ other. rw (
+      append_assoc front s.before (s.refused ∷ other),
+      one.only x front (s.before ++ (s.refused ∷ other)) (before other),
+    ) (s.stands other);
+    place = place_second x front s.before s.refused r (before []) s.place;
+  }
+    where
+      wide : Is x (kinds_of front)
+      wide = one.wider x (kinds_of front) (next_of us) w
+
+      before : (other : List Token)
+          → In x (kinds_of front) (next_of (s.before ++ (s.refused ∷ other)))
+      before other =
+          subst (λ (z : Option TokenKind). In x (kinds_of front) z)
+          (ap (λ (z : List Token). next_of z) s.parts
+          ∙ next-same s.before s.refused s.after other) w
+
+  first_by : (ts : List Token) (r : Refusal) (q : Result (A × List Token) Refusal)
+      → has_last (kinds_of ts) ≡ true → read ts ≡ q → (q >>= λ x. next x.0 x.1) ≡ Err r
+      → RefusedAt (Then Is Next) Where (in_turn read next) ts r
+  first_by ts r (Err d) h is e = at_first ts r (one.first ts r h (is ∙ cc))
+  first_by ts r (Ok (x, us)) h is e =
+      let f = one.found ts x us is in
+      let wide = one.wider x (kinds_of f.0) (next_of us) f.1 in
+      let left = last_after f.0 us ts (one.unended x (kinds_of f.0) wide) f.2 h in
+      at_second ts r x f.0 us f.1 f.2 ((two x (kinds_of f.0) wide).first us r left e)
+
+  pub reads_in_turn : IsReader (Then Is Next) (ThenBefore In NextIn) Where (in_turn read next)
+  reads_in_turn = record {
+    found = λ ts y rest e. found_both ts y rest (read ts) refl e;
+    only = λ y front rest is. only_both y (kinds_of front) (next_of rest) is front rest refl refl;
+    wider = wider_both;
+    unended = unended_both;
+    first = λ ts r h e. first_by ts r (read ts) h refl e;
+  }
+
+-- ---- the same, where a refusal's place is at its token
+
+pub moves : (front before : List Token) (t : Token) (r : Refusal) → AtToken before t r
+    → AtToken (front ++ before) t r
+moves front before t r (there e) = there e
+moves front before t r (inside e) = inside e
+
+pub turns : {A B : Type 0} (Is : Grammar A) (In : GrammarBefore A) (Next : A → Grammar B)
+    (NextIn : A → GrammarBefore B) (read : Reads A) (next : A → Reads B)
+    → IsReader Is In AtToken read
+    → ((x : A) (ks : List TokenKind) → Is x ks → IsReader (Next x) (NextIn x) AtToken (next x))
+    → ((x : A) (ks : List TokenKind) → Is x ks → Begins (Next x) [])
+    → IsReader (Then Is Next) (ThenBefore In NextIn) AtToken (in_turn read next)
+turns Is In Next NextIn read next one two some =
+    reads_in_turn Is In Next NextIn AtToken (λ x. AtToken) AtToken read next one two some
+    (λ before t r p. p) (λ x front before t r w p. moves front before t r p)
+
+-- ---- other words for the same language, and for the same refusals
+
+module _ {A B : Type 0} (Is Is2 : Grammar A) (Where Where2 : Refusals)
+    (to : (x : A) (ks : List TokenKind) → Is x ks → Is2 x ks)
+    (place : (before : List Token) (t : Token) (r : Refusal) → Where before t r
+    → Where2 before t r) where
+  pub refused_as_well : (read : List Token → Result B Refusal) (ts : List Token) (r : Refusal)
+      → RefusedAt Is Where read ts r → RefusedAt Is2 Where2 read ts r
+  refused_as_well read ts r s = record {
+    before = s.before;
+    refused = s.refused;
+    after = s.after;
+    parts = s.parts;
+    begins = (s.begins.0, s.begins.1, to s.begins.0 (kinds_of s.before ++ s.begins.1) s.begins.2);
+    stands = s.stands;
+    place = place s.before s.refused r s.place;
+  }
+
+pub reworded : {A : Type 0} (Is Is2 : Grammar A) (In In2 : GrammarBefore A) (Where : Refusals)
+    (read : Reads A) → IsReader Is In Where read
+    → ((x : A) (ks : List TokenKind) → Is x ks → Is2 x ks)
+    → ((x : A) (ks : List TokenKind) → Is2 x ks → has_last ks ≡ false)
+    → ((x : A) (ks : List TokenKind) (h : Option TokenKind) → In x ks h → In2 x ks h)
+    → ((x : A) (ks : List TokenKind) (h : Option TokenKind) → In2 x ks h → In x ks h)
+    → IsReader Is2 In2 Where read
+reworded {A} Is Is2 In In2 Where read one to unended within back = record {
+  found = λ ts x rest e.
+      let f = one.found ts x rest e in
+      (f.0, within x (kinds_of f.0) (next_of rest) f.1, f.2);
+  only = λ x front rest is. one.only x front rest (back x (kinds_of front) (next_of rest) is);
+  wider = λ x ks h is. to x ks (one.wider x ks h (back x ks h is));
+  unended = unended;
+  first = λ ts r h e. refused_as_well Is Is2 Where Where to (λ before t r p. p) read ts r
+      (one.first ts r h e);
+}
+
+pub replaced : {A : Type 0} (Is : Grammar A) (In : GrammarBefore A) (Where Where2 : Refusals)
+    (read : Reads A) → IsReader Is In Where read
+    → ((before : List Token) (t : Token) (r : Refusal) → Where before t r → Where2 before t r)
+    → IsReader Is In Where2 read
+replaced Is In Where Where2 read one place = record {
+  found = one.found;
+  only = one.only;
+  wider = one.wider;
+  unended = one.unended;
+  first = λ ts r h e. refused_as_well Is Is Where Where2 (λ x ks is. is) place read ts r
+      (one.first ts r h e);
+}

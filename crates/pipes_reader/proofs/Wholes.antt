@@ -1,0 +1,319 @@
+-- The reader of a whole text, over any grammar.
+use Rattle.std.proofs.Common.{◌≡◌, ℕ, ◌≤◌, Bool, true, false, ◌||◌, List, [], ◌∷◌, ◌++◌, length, Option, Some, Result, Ok, Err, refl, sym, ap, subst, ◌∙◌, append_assoc, arith}
+use Rattle.std.proofs.lemmas.List.{append-nil}
+use Rattle.pipes_token.specs.declared.refusal.Refusal.{Refusal}
+use Rattle.pipes_token.specs.declared.token.TokenKind.{TokenKind}
+use Rattle.pipes_token.specs.declared.token.TokenKind.TheVariants.{Sign, Keyword, Name, Number, Text, Long, Cut, Byte, End}
+use Rattle.pipes_token.specs.declared.token.Token.{Token}
+use Rattle.pipes_token.specs.Places.{told}
+use Rattle.pipes_token.specs.Spelling.{Spells}
+use Rattle.pipes_token.specs.Tokens.{Tokens, is_last, Stops}
+use Rattle.pipes_token.specs.Tokens as lexed
+use Rattle.pipes_token.proofs.OnlyTokens.{same_tokens}
+use Rattle.pipes_reader.specs.Reading.{Reads, ◌>>=◌, kinds_of, refused_by, at_end, then_end, whole}
+use Rattle.pipes_reader.specs.Sentences.{Grammar, GrammarBefore, Begins, next_of, has_last, Whole}
+use Rattle.pipes_reader.specs.Places.{Refusals, FirstPlace, AtToken, there}
+use Rattle.pipes_token.specs.declared.refusal.TextRefusal.{TextRefusal}
+use Rattle.pipes_token.specs.declared.refusal.ReadFault.{ReadFault}
+use Rattle.pipes_token.specs.declared.refusal.ReadFault.TheVariants as fault
+use Rattle.pipes_reader.specs.Texts.{IsText, IsFile, ReadAs, IsRefused, HasTokens, IsRefusedBy, past_limit, by_tokens, IsReadBy}
+use Rattle.pipes_reader.specs.Texts as texts
+use Rattle.pipes_reader.proofs.TokenLists.{kinds-append, tokens_of, kinds-tokens, split, uncons, none, last_after}
+use Rattle.pipes_reader.proofs.Readers.{IsReader, RefusedAt}
+use Rattle.pipes_reader.proofs.Singles.{refused_place}
+
+-- ---- the last token
+
+stops_last : (n : ℕ) (here : List ℕ) (k : TokenKind) → Stops n here k → is_last k ≡ true
+stops_last n here End s = refl
+stops_last n here Byte s = refl
+stops_last n here (Cut r) s = refl
+stops_last n here (Sign x) s = absurd s
+stops_last n here (Keyword x) s = absurd s
+stops_last n here (Name x) s = absurd s
+stops_last n here (Number x) s = absurd s
+stops_last n here (Text x) s = absurd s
+stops_last n here Long s = absurd s
+
+pub text_ends : (n : ℕ) (bs : List ℕ) (ts : List Token) → Tokens n bs ts
+    → has_last (kinds_of ts) ≡ true
+text_ends n _ _ (lexed.next bs here rest t ts placed begins short others) =
+    either (is_last t.kind) (text_ends n rest ts others)
+  where
+    either : (b : Bool) → has_last (kinds_of ts) ≡ true → (b || has_last (kinds_of ts)) ≡ true
+    either true h = refl
+    either false h = h
+text_ends n _ _ (lexed.too_long bs here rest t placed begins long) = rw long refl
+text_ends n _ _ (lexed.stopped bs here t placed stops) = rw (stops_last n here t.kind stops) refl
+
+one_token : (t : Token) (front rest : List Token) (ks : List TokenKind) → t ∷ [] ≡ front ++ rest
+    → kinds_of front ≡ ks ++ (End ∷ []) → rest ≡ []
+one_token t [] rest [] e f = absurd cc
+one_token t [] rest (k ∷ ks) e f = absurd cc
+one_token t (u ∷ []) rest ks e f = cc
+one_token t (u ∷ v ∷ front) rest ks e f = absurd cc
+
+-- after the end of the text no token follows
+nothing_after : (n : ℕ) (bs : List ℕ) (ts : List Token) → Tokens n bs ts → (front rest : List Token)
+    (ks : List TokenKind) → ts ≡ front ++ rest → kinds_of front ≡ ks ++ (End ∷ []) → rest ≡ []
+nothing_after n _ _ (lexed.next bs here left t ts placed begins short others) [] rest [] e f =
+    absurd cc
+nothing_after n _ _ (lexed.next bs here left t ts placed begins short others) [] rest (k ∷ ks) e f =
+    absurd cc
+nothing_after n _ _ (lexed.next bs here left t ts placed begins short others)
+    (u ∷ front) rest [] e f =
+    absurd (subst (λ (k : TokenKind). Spells k begins.spelling) kind_is begins.spells)
+  where
+    kind_is : t.kind ≡ End
+    kind_is =
+        let same : t ≡ u = cc in
+        let last : u.kind ≡ End = cc in
+        ap (λ (z : Token). z.kind) same ∙ last
+nothing_after n _ _ (lexed.next bs here left t ts placed begins short others) (u ∷ front) rest
+    (k ∷ ks) e f =
+    nothing_after n left ts others front rest ks (cc) (cc)
+nothing_after n _ _ (lexed.too_long bs here left t placed begins long) front rest ks e f =
+    one_token t front rest ks e f
+nothing_after n _ _ (lexed.stopped bs here t placed stops) front rest ks e f =
+    one_token t front rest ks e f
+
+-- ---- a whole
+
+abbrev all_of : {A : Type 0} → A → Result A Refusal
+all_of x = Ok x
+
+all_is : {A : Type 0} (x y : A) → all_of x ≡ all_of y → x ≡ y
+all_is x y e = cc
+
+-- a value that ends with the text
+pub record EndsWith {A : Type 0} (x y : A) (rest : List Token) : Type 0 where
+  pub last : Token
+  pub others : List Token
+  pub same : x ≡ y
+  pub is_end : last.kind ≡ End
+  pub parts : rest ≡ last ∷ others
+
+end_by : {A : Type 0} (x y : A) (t : Token) (ts : List Token) (k : TokenKind) → t.kind ≡ k
+    → at_end x k t.at ≡ all_of y → EndsWith x y (t ∷ ts)
+end_by x y t ts End is e =
+    record { last = t; others = ts; same = all_is x y e; is_end = is; parts = refl }
+end_by x y t ts (Sign z) is e = absurd cc
+end_by x y t ts (Keyword z) is e = absurd cc
+end_by x y t ts (Name z) is e = absurd cc
+end_by x y t ts (Number z) is e = absurd cc
+end_by x y t ts (Text z) is e = absurd cc
+end_by x y t ts (Cut z) is e = absurd cc
+end_by x y t ts Long is e = absurd cc
+end_by x y t ts Byte is e = absurd cc
+
+end_is : {A : Type 0} (x y : A) (ts : List Token) → then_end x ts ≡ all_of y → EndsWith x y ts
+end_is x y [] e = absurd cc
+end_is x y (t ∷ ts) e = end_by x y t ts t.kind refl e
+
+module _ {A : Type 0} (Is Within : Grammar A) (In : GrammarBefore A) (Where WholeWhere : Refusals)
+    (read : Reads A) (reads : IsReader Is In Where read)
+    (within : (x : A) (ks : List TokenKind) (h : Option TokenKind) → In x ks h → Within x ks)
+    (closed : (x : A) (ks : List TokenKind) → Within x ks → In x ks (Some End)) where
+  found_by : (ts : List Token) (x : A) (q : Result (A × List Token) Refusal) → read ts ≡ q
+      → (q >>= λ y. then_end y.0 y.1) ≡ Ok x
+      → (front rest : List Token) × Whole Within x (kinds_of front) × (ts ≡ front ++ rest)
+  found_by ts x (Err r) is e = absurd cc
+  found_by ts x (Ok (y, us)) is e =
+      let f = reads.found ts y us is in
+      let d = end_is y x us e in
+      let sentence = subst (λ (z : A). Within z (kinds_of f.0)) d.same
+      (within y (kinds_of f.0) (next_of us) f.1) in
+      let kinds : kinds_of (f.0 ++ (d.last ∷ [])) ≡ kinds_of f.0 ++ (End ∷ []) =
+      kinds-append f.0 (d.last ∷ [])
+      ∙ ap (λ (k : TokenKind). kinds_of f.0 ++ (k ∷ [])) d.is_end in (
+        f.0 ++ (d.last ∷ []),
+        d.others,
+        (kinds_of f.0, sentence, kinds),
+        f.2 ∙ ap (λ (z : List Token). f.0 ++ z) d.parts
+            ∙ sym (append_assoc f.0 (d.last ∷ []) d.others),
+      )
+
+  -- what is read of a text's tokens is their value
+  pub whole_found : (bytes : List ℕ) (ts : List Token) (x : A) → Tokens (length bytes) bytes ts
+      → whole read ts ≡ Ok x → IsText Within x bytes
+  whole_found bytes ts x are e =
+      let f = found_by ts x (read ts) refl e in
+      let nothing = nothing_after (length bytes) bytes ts are f.0 f.1 f.2.0 f.3 f.2.2 in
+      let same : f.0 ≡ ts =
+      sym (append-nil f.0) ∙ ap (λ (z : List Token). f.0 ++ z) (sym nothing) ∙ sym f.3 in
+      record {
+        tokens = ts;
+        are = are;
+        spells = subst (λ (z : List Token). Whole Within x (kinds_of z)) same f.2;
+      }
+
+  -- whatever follows the end, it isn't looked at
+  only_whole : (x : A) (ts rest : List Token) → Whole Within x (kinds_of ts)
+      → whole read (ts ++ rest) ≡ Ok x
+  only_whole x ts rest (sentence, is, e) =
+      let p = split sentence (End ∷ []) ts (sym e) in
+      let c = uncons End [] p.back p.back_kinds in
+      let nothing = none c.tail c.tail_kinds in
+      let parts : ts ++ rest ≡ p.front ++ (c.head ∷ rest) =
+      ap (λ (z : List Token). z ++ rest) (p.parts ∙ ap (λ (z : List Token). p.front ++ z)
+      (c.parts ∙ ap (λ (z : List Token). c.head ∷ z) nothing))
+      ∙ append_assoc p.front (c.head ∷ []) rest in
+      let here : In x (kinds_of p.front) (Some c.head.kind) =
+      subst (λ (k : TokenKind). In x (kinds_of p.front) (Some k)) (sym c.head_kind)
+      (closed x (kinds_of p.front) (subst (λ (z : List TokenKind). Within x z) p.front_kinds is)) in
+      let one = reads.only x p.front (c.head ∷ rest) here in
+      rw (parts, one, c.head_kind) refl
+
+  -- a text's value is read
+  pub whole_only : (bytes : List ℕ) (ts : List Token) (x : A) → Tokens (length bytes) bytes ts
+      → IsText Within x bytes → whole read ts ≡ Ok x
+  whole_only bytes ts x are is =
+      let same : ts ≡ is.tokens = same_tokens (length bytes) bytes ts is.tokens are is.are in
+      ap (λ (z : List Token). whole read z) (same ∙ sym (append-nil is.tokens))
+      ∙ only_whole x is.tokens [] is.spells
+
+  pub only_value : (bytes : List ℕ) (ts : List Token) (x y : A) → Tokens (length bytes) bytes ts
+      → whole read ts ≡ Ok x → IsText Within y bytes → x ≡ y
+  only_value bytes ts x y are e is = all_is x y (sym e ∙ whole_only bytes ts y are is)
+
+  pub never_refused : (bytes : List ℕ) (ts : List Token) (r : Refusal) (x : A)
+      → Tokens (length bytes) bytes ts → whole read ts ≡ Err r → IsText Within x bytes → ⊥
+  never_refused bytes ts r x are e is = differ (sym (whole_only bytes ts x are is) ∙ e)
+    where
+      differ : all_of x ≡ Err r → ⊥
+      differ f = cc
+
+  -- ---- what a reader of texts answers
+
+  pub text_found : (bytes : List ℕ) (x : A) → IsReadBy read bytes (Ok x) → IsFile Within x bytes
+  text_found bytes x (ts, has, e) =
+      record { text = whole_found bytes ts x has.are e; short = has.short }
+
+  never : (bytes : List ℕ) (x : A) (r : TextRefusal) → IsFile Within x bytes
+      → IsRefusedBy read bytes r → ⊥
+  never bytes x _ is (past_limit past) = omega (arith, past, is.short)
+  never bytes x _ is (by_tokens ts r has e) = never_refused bytes ts r x has.are e is.text
+
+  pub text_only : (bytes : List ℕ) (x : A) (result : Result A ReadFault)
+      → IsReadBy read bytes result
+      → IsFile Within x bytes → ReadAs x result
+  text_only bytes x (Ok y) (ts, has, e) is = only_value bytes ts y x has.are e is.text
+  text_only bytes x (Err (fault.Text r)) by is = never bytes x r is by
+  text_only bytes x (Err fault.Memory) by is = tt
+
+  -- ---- its first place
+
+  -- with the refused token no sentence goes on
+  ends : (r : Refusal) (before : List Token) (refused : Token)
+      → ((other : List Token) → whole read (before ++ (refused ∷ other)) ≡ Err r)
+      → Begins (Whole Within) (kinds_of (before ++ (refused ∷ []))) → ⊥
+  ends r before refused stands (x, more, is) =
+      let other = tokens_of more in
+      let up_to = before ++ (refused ∷ []) in
+      let kinds : kinds_of up_to ++ more ≡ kinds_of (up_to ++ other) =
+      ap (λ (z : List TokenKind). kinds_of up_to ++ z) (sym (kinds-tokens more))
+      ∙ sym (kinds-append up_to other) in
+      let read_on =
+      only_whole x (up_to ++ other) []
+      (subst (λ (z : List TokenKind). Whole Within x z) kinds is) in
+      let same : (up_to ++ other) ++ [] ≡ before ++ (refused ∷ other) =
+      append-nil (up_to ++ other) ∙ append_assoc before (refused ∷ []) other in
+      differ x (sym read_on ∙ ap (λ (z : List Token). whole read z) same ∙ stands other)
+    where
+      differ : (x : A) → all_of x ≡ Err r → ⊥
+      differ x e = cc
+
+  module _ (place : (before : List Token) (t : Token) (r : Refusal) → Where before t r
+      → WholeWhere before t r)
+      (place_end : (before : List Token) (t : Token) (r : Refusal) → AtToken before t r
+      → WholeWhere before t r) where
+    at_place : (ts : List Token) (r : Refusal) → RefusedAt Is Where read ts r
+        → FirstPlace (Whole Is) (Whole Within) WholeWhere (whole read) ts r
+    at_place ts r s = record {
+      before = s.before;
+      refused = s.refused;
+      after = s.after;
+      parts = s.parts;
+      begins = begun s.begins;
+      ends = ends r s.before s.refused stands;
+      stands = stands;
+      place = place s.before s.refused r s.place;
+    }
+      where
+        begun : Begins Is (kinds_of s.before) → Begins (Whole Is) (kinds_of s.before)
+        begun (x, more, is) = (
+          x,
+          more ++ (End ∷ []),
+          (kinds_of s.before ++ more, is, sym (append_assoc (kinds_of s.before) more (End ∷ []))),
+        )
+
+        stands : (other : List Token) → whole read (s.before ++ (s.refused ∷ other)) ≡ Err r
+        stands other = rw (s.stands other) refl
+
+    -- a token is left where the text would have to end
+    not_end : (x : A) (t : Token) (k : TokenKind) (r : Refusal) → at_end x k t.at ≡ Err r
+        → r.at ≡ t.at
+    not_end x t End r e = absurd cc
+    not_end x t (Sign z) r e = cc
+    not_end x t (Keyword z) r e = cc
+    not_end x t (Name z) r e = cc
+    not_end x t (Number z) r e = cc
+    not_end x t (Text z) r e = cc
+    not_end x t (Cut z) r e = cc
+    not_end x t Long r e = cc
+    not_end x t Byte r e = cc
+
+    at_rest : (ts : List Token) (r : Refusal) (x : A) (front us : List Token)
+        → In x (kinds_of front) (next_of us) → ts ≡ front ++ us → has_last (kinds_of us) ≡ true
+        → then_end x us ≡ Err r → FirstPlace (Whole Is) (Whole Within) WholeWhere (whole read) ts r
+    at_rest ts r x front [] is parts h e = absurd cc
+    at_rest ts r x front (t ∷ us) is parts h e = record {
+      before = front;
+      refused = t;
+      after = us;
+      parts = parts;
+      begins = (
+        x,
+        End ∷ [],
+        (kinds_of front, reads.wider x (kinds_of front) (Some t.kind) is, refl),
+      );
+      ends = ends r front t stands;
+      stands = stands;
+      place = place_end front t r (there (not_end x t t.kind r e));
+    }
+      where
+        stands : (other : List Token) → whole read (front ++ (t ∷ other)) ≡ Err r
+        stands other = rw (reads.only x front (t ∷ other) is) e
+
+    first_by : (ts : List Token) (r : Refusal) (q : Result (A × List Token) Refusal)
+        → has_last (kinds_of ts) ≡ true → read ts ≡ q → (q >>= λ y. then_end y.0 y.1) ≡ Err r
+        → FirstPlace (Whole Is) (Whole Within) WholeWhere (whole read) ts r
+    first_by ts r (Err d) h is e = at_place ts r (reads.first ts r h (is ∙ cc))
+    first_by ts r (Ok (x, us)) h is e =
+        let f = reads.found ts x us is in
+        let wide = reads.wider x (kinds_of f.0) (next_of us) f.1 in
+        let left = last_after f.0 us ts (reads.unended x (kinds_of f.0) wide) f.2 h in
+        at_rest ts r x f.0 us f.1 f.2 left e
+
+    -- a text is refused at the first token with which no text goes on
+    pub whole_refused : (bytes : List ℕ) (ts : List Token) (r : Refusal) → length bytes ≤ 1048576
+        → Tokens (length bytes) bytes ts → whole read ts ≡ Err r
+        → IsRefused Is Within WholeWhere read bytes (told bytes r)
+    whole_refused bytes ts r short are e =
+        texts.tokens ts r short are
+        (first_by ts r (read ts) (text_ends (length bytes) bytes ts are) refl e)
+
+    pub text_refused : (bytes : List ℕ) (r : TextRefusal) → IsRefusedBy read bytes r
+        → IsRefused Is Within WholeWhere read bytes r
+    text_refused bytes _ (past_limit past) = texts.too_long past
+    text_refused bytes _ (by_tokens ts r has e) = whole_refused bytes ts r has.short has.are e
+
+-- ---- the refusal with its place by line and column
+
+pub told_refused : {A : Type 0} (read : Reads A) (bytes : List ℕ) (ts us : List Token) (r : Refusal)
+    (line : TextRefusal) → length bytes ≤ 1048576 → Tokens (length bytes) bytes us → ts ≡ us
+    → whole read ts ≡ Err r → line ≡ told bytes r → IsRefusedBy read bytes line
+told_refused read bytes ts us r line short are same e f =
+    let by = by_tokens us r (record { short = short; are = are })
+    (subst (λ (z : List Token). whole read z ≡ Err r) same e) in
+    subst (λ (z : TextRefusal). IsRefusedBy read bytes z) (sym f) by

@@ -1,0 +1,6 @@
+pub mod Reading
+pub mod Sentences
+pub mod Places
+pub mod Texts
+pub mod Names
+pub mod Taking

@@ -1,0 +1,15 @@
+//! Worked examples over the public calls of the other crates, and of the program. It has tests
+//! alone: what a contract says exactly needs none, so these show what no clause says, that ample
+//! memory is no reason to give up, and tables against the definitions, worked out by hand.
+#![tactic(auto)]
+
+#[cfg(test)]
+mod late;
+#[cfg(test)]
+mod plans;
+#[cfg(test)]
+mod program;
+#[cfg(test)]
+mod splits;
+#[cfg(test)]
+mod streams;

@@ -1,0 +1,5 @@
+pub mod Maps
+pub mod Changes
+pub mod Keeping
+pub mod Telling
+pub mod Parts

@@ -1,0 +1,3 @@
+pub mod Messages
+pub mod Snapshots
+pub mod Ports

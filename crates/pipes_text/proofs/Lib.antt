@@ -1,0 +1,9 @@
+pub mod Tokens
+pub mod ColumnLaws
+pub mod SourceLaws
+pub mod QueryLaws
+pub mod QueryTexts
+pub mod PrintLaws
+pub mod ScriptValues
+pub mod ScriptLaws
+pub mod ScriptTexts

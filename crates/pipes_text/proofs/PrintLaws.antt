@@ -1,0 +1,344 @@
+-- What is printed is a text of the value.
+use Rattle.std.proofs.Common.{◌≡◌, ℕ, zero, suc, ◌+◌, ◌^◌, ◌<◌, ◌≤◌, Bool, true, false, List, [], ◌∷◌, ◌++◌, length, map, Option, Some, refl, sym, ap, subst, ◌∙◌, append_assoc, append-nil, arith}
+use Rattle.std.specs.Prelude.{codes}
+use Rattle.std.specs.Fmt.{decimal}
+use Rattle.pipes_token.specs.declared.token.Sign.TheVariants.{Open, Close, Comma}
+use Rattle.pipes_token.specs.declared.keyword.Keyword.{Keyword as AKeyword}
+use Rattle.pipes_token.specs.declared.keyword.Keyword.TheVariants as keyword
+use Rattle.pipes_token.specs.declared.token.TokenKind.{TokenKind}
+use Rattle.pipes_token.specs.declared.token.TokenKind.TheVariants.{Sign, Keyword, Name, Number, Text, Long, Cut, Byte, End}
+use Rattle.pipes_token.specs.declared.token.Token.{Token}
+use Rattle.pipes_token.specs.Keywords.{keyword_text}
+use Rattle.pipes_token.specs.Gaps.{IsPastGap}
+use Rattle.pipes_token.specs.Gaps as gaps
+use Rattle.pipes_token.specs.Spelling.{Spells}
+use Rattle.pipes_token.specs.Tokens.{Tokens, IsPlaced}
+use Rattle.pipes_token.specs.Tokens as lexed
+use Rattle.pipes_token.specs.Writing.{IsApart, BeginsWith, WritesBefore, Writes, WritesFreely, IsSpelled}
+use Rattle.pipes_token.proofs.Gaps.{past_separator}
+use Rattle.pipes_token.proofs.Writing.{write_keyword, write_name, write_number, write_open, write_close, write_comma, write_space_before, write_space_behind, write_then, write_apart_then}
+use Rattle.pipes_token.proofs.Quoting.{write_quoted}
+use Rattle.pipes_tuple.specs.declared.value.Kind.{Kind}
+use Rattle.pipes_tuple.specs.declared.value.Kind.TheVariants as kind
+use Rattle.pipes_tuple.specs.Texts.{quoted}
+use Rattle.pipes_window.specs.declared.kind.WindowKind.{WindowKind}
+use Rattle.pipes_plan.specs.declared.plan.Plan.{Plan}
+use Rattle.pipes_reader.specs.Reading.{kinds_of}
+use Rattle.pipes_grammar.specs.Limits.{IsPlanText}
+use Rattle.pipes_reader.proofs.TokenLists.{kinds-append}
+use Rattle.pipes_print.specs.PlanText.{plan_text}
+use Rattle.pipes_print.specs.Printed.{AreSpelled, PlanPrinted}
+use Rattle.pipes_print.proofs.Again.{plan_again}
+use Rattle.pipes_query.specs.declared.query.SourceDecl.{SourceDecl}
+use Rattle.pipes_query.specs.declared.query.Query.{Query}
+use Rattle.pipes_query.specs.Queries.{names_of}
+use Rattle.pipes_text.specs.Grammar as grammar
+use Rattle.pipes_text.specs.Grammar.{word_of, kind_of, IsColumn, AreColumns, IsSlack, IsWindowText, IsSource, AreSources, IsQuery, query}
+use Rattle.pipes_text.specs.Limits.{IsQueryText}
+use Rattle.pipes_text.specs.Texts.{IsTextOfQuery}
+use Rattle.pipes_text.specs.Printing.{kind_text, column_text, more_columns_text, columns_text, slack_text, window_text, source_line, sources_text, plan_line, query_text, HasText}
+
+-- ---- the tokens of a text are spelled
+
+spelled_one : (k : TokenKind) (ks : List TokenKind) → k ∷ [] ≡ ks ++ (End ∷ []) → AreSpelled ks
+spelled_one k [] e = tt
+spelled_one k (l ∷ []) e = absurd cc
+spelled_one k (l ∷ m ∷ ks) e = absurd cc
+
+spelled_front : (n : ℕ) (bs : List ℕ) (ts : List Token) → Tokens n bs ts → (ks : List TokenKind)
+    → kinds_of ts ≡ ks ++ (End ∷ []) → AreSpelled ks
+spelled_front n _ _ (lexed.next bs here rest t ts placed begins short others) [] e = tt
+spelled_front n _ _ (lexed.next bs here rest t ts placed begins short others) (k ∷ ks) e =
+    let same : t.kind ≡ k = cc in (
+      subst (λ (z : TokenKind). IsSpelled z) same (begins.spelling, begins.spells),
+      spelled_front n rest ts others ks (cc),
+    )
+spelled_front n _ _ (lexed.too_long bs here rest t placed begins long) ks e =
+    spelled_one t.kind ks e
+spelled_front n _ _ (lexed.stopped bs here t placed stops) ks e = spelled_one t.kind ks e
+
+spelled_left : (ks ls : List TokenKind) → AreSpelled (ks ++ ls) → AreSpelled ks
+spelled_left [] ls h = tt
+spelled_left (k ∷ ks) ls h = (h.0, spelled_left ks ls h.1)
+
+spelled_right : (ks ls : List TokenKind) → AreSpelled (ks ++ ls) → AreSpelled ls
+spelled_right [] ls h = h
+spelled_right (k ∷ ks) ls h = spelled_right ks ls h.1
+
+-- ---- the end of a line
+
+behind : (n : ℕ) (bs here : List ℕ) (token : Token) → IsPlaced n bs here token
+    → IsPlaced n (10 ∷ bs) here token
+behind n bs here token p =
+    record { past_gap = past_separator 10 bs here refl p.past_gap; place = p.place }
+
+line_feed : (n : ℕ) (bs : List ℕ) (ts : List Token) → Tokens n bs ts → Tokens n (10 ∷ bs) ts
+line_feed n bs _ (lexed.next _ here rest t ts p h long others) =
+    lexed.next (10 ∷ bs) here rest t ts (behind n bs here t p) h long others
+line_feed n bs _ (lexed.too_long _ here rest t p h long) =
+    lexed.too_long (10 ∷ bs) here rest t (behind n bs here t p) h long
+line_feed n bs _ (lexed.stopped _ here t p h) =
+    lexed.stopped (10 ∷ bs) here t (behind n bs here t p) h
+
+write_line : (kinds : List TokenKind) (bytes : List ℕ) → Writes kinds bytes
+    → WritesFreely kinds (bytes ++ (10 ∷ []))
+write_line kinds bytes w = record {
+  begins = λ n more tokens fits _ t.
+      let parts : (bytes ++ (10 ∷ [])) ++ more ≡ bytes ++ (10 ∷ more) =
+      append_assoc bytes (10 ∷ []) more in
+      let short : length (bytes ++ (10 ∷ more)) ≤ n =
+      subst (λ (x : List ℕ). length x ≤ n) parts fits in
+      subst (λ (x : List ℕ). BeginsWith n kinds x tokens) (sym parts)
+      (w.begins n (10 ∷ more) tokens short refl (line_feed n more tokens t));
+}
+
+abbrev free : List ℕ → Type 0
+free bs = Unit {0}
+
+-- a keyword and a space
+word_then : (k : AKeyword) → WritesFreely (Keyword k ∷ []) (keyword_text k ++ (32 ∷ []))
+word_then k = write_space_behind (Keyword k ∷ []) (keyword_text k) (write_keyword k)
+
+-- ---- columns
+
+write_word : (k : TokenKind) (name : List ℕ) → word_of k ≡ Some name → IsSpelled k
+    → Writes (k ∷ []) name
+write_word (Name w) name e s =
+    let same : w ≡ name = cc in
+    subst (λ (z : List ℕ). Writes (Name w ∷ []) z) same (write_name w s.1.1 s.1.2)
+write_word (Keyword k) name e s =
+    let same : keyword_text k ≡ name = cc in
+    subst (λ (z : List ℕ). Writes (Keyword k ∷ []) z) same (write_keyword k)
+write_word _ name e s = absurd cc
+
+write_kind : (k : TokenKind) (sort : Kind) → kind_of k ≡ Some sort
+    → Writes (k ∷ []) (kind_text sort)
+write_kind (Keyword keyword.Int) sort e =
+    let same : kind.Int ≡ sort = cc in
+    subst (λ (z : Kind). Writes (Keyword keyword.Int ∷ []) (kind_text z)) same
+    (write_keyword keyword.Int)
+write_kind (Keyword keyword.Text) sort e =
+    let same : kind.Text ≡ sort = cc in
+    subst (λ (z : Kind). Writes (Keyword keyword.Text ∷ []) (kind_text z)) same
+    (write_keyword keyword.Text)
+write_kind (Keyword keyword.Flag) sort e =
+    let same : kind.Flag ≡ sort = cc in
+    subst (λ (z : Kind). Writes (Keyword keyword.Flag ∷ []) (kind_text z)) same
+    (write_keyword keyword.Flag)
+write_kind _ sort e = absurd cc
+
+write_column : (name : List ℕ) (sort : Kind) (ks : List TokenKind) → IsColumn name sort ks
+    → AreSpelled ks → Writes ks (column_text name sort)
+write_column _ _ _ (grammar.IsColumn.column name sort word k e f) s =
+    write_apart_then IsApart (word ∷ []) (k ∷ []) name (codes " " ++ kind_text sort) (λ more. refl)
+    (write_word word name e s.0)
+    (write_space_before IsApart (k ∷ []) (kind_text sort) (write_kind k sort f))
+
+behind_comma : (names : List (List ℕ)) (sorts : List Kind) (ks : List TokenKind)
+    → AreColumns names sorts ks
+    → more_columns_text names sorts ≡ codes ", " ++ columns_text names sorts
+behind_comma _ _ _ (grammar.AreColumns.last name sort ks is) = refl
+behind_comma _ _ _ (grammar.AreColumns.more name sort names sorts ks ls is are) = refl
+
+write_columns : (names : List (List ℕ)) (sorts : List Kind) (ks : List TokenKind)
+    → AreColumns names sorts ks → AreSpelled ks → Writes ks (columns_text names sorts)
+write_columns _ _ _ (grammar.AreColumns.last name sort ks is) s =
+    subst (λ (z : List ℕ). Writes ks z) (sym (append-nil (column_text name sort)))
+    (write_column name sort ks is s)
+write_columns _ _ _ (grammar.AreColumns.more name sort names sorts ks ls is are) s =
+    let others = write_columns names sorts ls are (spelled_right ks (Sign Comma ∷ ls) s).1 in
+    let rest : Writes (Sign Comma ∷ ls) (codes ", " ++ columns_text names sorts) =
+    write_then IsApart (Sign Comma ∷ []) ls (codes ",") (32 ∷ columns_text names sorts) write_comma
+    (write_space_before IsApart ls (columns_text names sorts) others) in
+    let text : columns_text (name ∷ names) (sort ∷ sorts) ≡ column_text name sort ++
+    (codes ", " ++ columns_text names sorts) =
+    ap (λ (z : List ℕ). column_text name sort ++ z) (behind_comma names sorts ls are) in
+    subst (λ (z : List ℕ). Writes (ks ++ (Sign Comma ∷ ls)) z) (sym text)
+    (write_apart_then IsApart ks (Sign Comma ∷ ls) (column_text name sort)
+    (codes ", " ++ columns_text names sorts) (λ more. refl)
+    (write_column name sort ks is (spelled_left ks (Sign Comma ∷ ls) s)) rest)
+
+-- ---- windows
+
+write_window : (w : WindowKind) (ks : List TokenKind) → IsWindowText w ks
+    → Writes ks (window_text w)
+write_window _ _ (grammar.IsWindowText.time n d) =
+    write_then IsApart (Keyword keyword.Time ∷ []) (Number n ∷ []) (codes "time ") (decimal n)
+    (word_then keyword.Time) (write_number n (omega (arith, d.1)))
+write_window _ _ (grammar.IsWindowText.slide n m d e) =
+    write_then IsApart (Keyword keyword.Time ∷ [])
+    (Number n ∷ Keyword keyword.Slide ∷ Number m ∷ []) (codes "time ")
+    (decimal n ++ (codes " slide " ++ decimal m)) (word_then keyword.Time)
+    (write_apart_then IsApart (Number n ∷ []) (Keyword keyword.Slide ∷ Number m ∷ []) (decimal n)
+    (codes " slide " ++ decimal m) (λ more. refl) (write_number n (omega (arith, d.1)))
+    (write_then IsApart (Keyword keyword.Slide ∷ []) (Number m ∷ []) (codes " slide ") (decimal m)
+    (write_space_before free (Keyword keyword.Slide ∷ []) (codes "slide ")
+    (word_then keyword.Slide))
+    (write_number m (omega (arith, e.1)))))
+write_window _ _ (grammar.IsWindowText.count n low high) =
+    write_then IsApart (Keyword keyword.Count ∷ []) (Number n ∷ []) (codes "count ") (decimal n)
+    (word_then keyword.Count) (write_number n (omega (arith, high)))
+
+-- ---- slack, before the window's word
+
+abbrev window_line : WindowKind → List ℕ
+window_line w = codes " window " ++ (window_text w ++ codes "\n")
+
+late_line : (n : ℕ) (w : WindowKind) (rest : List TokenKind) → 1 ≤ n → n < 2 ^ 64
+    → WritesFreely rest (window_line w)
+    → WritesFreely (Keyword keyword.Slack ∷ Number n ∷ rest) (slack_text n ++ window_line w)
+late_line zero w rest some small later = absurd (omega (arith, some))
+late_line (suc n) w rest some small later =
+    subst (λ (z : List ℕ). WritesFreely (Keyword keyword.Slack ∷ Number (suc n) ∷ rest) z)
+    (sym (append_assoc (codes " slack ") (decimal (suc n)) (window_line w)))
+    (write_then free (Keyword keyword.Slack ∷ []) (Number (suc n) ∷ rest) (codes " slack ")
+    (decimal (suc n) ++ window_line w)
+    (write_space_before free (Keyword keyword.Slack ∷ []) (codes "slack ")
+    (word_then keyword.Slack))
+    (write_apart_then free (Number (suc n) ∷ []) rest (decimal (suc n)) (window_line w)
+    (λ more. refl)
+    (write_number (suc n) small) later))
+
+write_late : (n : ℕ) (ls : List TokenKind) → IsSlack n ls → (w : WindowKind) (rest : List TokenKind)
+    → WritesFreely rest (window_line w) → WritesFreely (ls ++ rest) (slack_text n ++ window_line w)
+write_late _ _ grammar.IsSlack.in_order w rest later = later
+write_late _ _ (grammar.IsSlack.within n d) w rest later =
+    late_line n w rest d.0 (omega (arith, d.1)) later
+
+-- ---- sources
+
+regroup : (a b c d e : List ℕ) → (a ++ (b ++ (c ++ d))) ++ e ≡ a ++ (b ++ (c ++ (d ++ e)))
+regroup a b c d e = simp append_assoc
+
+write_source : (s : SourceDecl) (ks : List TokenKind) → IsSource s ks → AreSpelled ks
+    → WritesFreely ks (source_line s)
+write_source _ _ (grammar.IsSource.source s cs ls ws are late lasts) h =
+    let after_open = h.1.1.1.1.1 in
+    let ending = ls ++ (Keyword keyword.Window ∷ ws) in
+    let columns : Writes cs (columns_text s.names s.schema) =
+    write_columns s.names s.schema cs are (spelled_left cs (Sign Close ∷ ending) after_open) in
+    let lasting : WritesFreely (Keyword keyword.Window ∷ ws) (window_line s.window) =
+    write_then free (Keyword keyword.Window ∷ []) ws (codes " window ")
+    (window_text s.window ++ codes "\n")
+    (write_space_before free (Keyword keyword.Window ∷ []) (codes "window ")
+    (word_then keyword.Window))
+    (write_line ws (window_text s.window) (write_window s.window ws lasts)) in
+    let end_text = slack_text s.slack ++ window_line s.window in
+    let ended : WritesFreely ending end_text =
+    write_late s.slack ls late s.window (Keyword keyword.Window ∷ ws) lasting in
+    let closed : WritesFreely (Sign Close ∷ ending) (codes ")" ++ end_text) =
+    write_then free (Sign Close ∷ []) ending (codes ")") end_text write_close ended in
+    let tail = columns_text s.names s.schema ++ (codes ")" ++ end_text) in
+    let inside = cs ++ (Sign Close ∷ ending) in
+    let within : WritesFreely inside tail =
+    write_apart_then free cs (Sign Close ∷ ending) (columns_text s.names s.schema)
+    (codes ")" ++ end_text) (λ more. refl) columns closed in
+    let opened : WritesFreely (Sign Open ∷ inside) (codes " (" ++ tail) =
+    write_then free (Sign Open ∷ []) inside (codes " (") tail
+    (write_space_before free (Sign Open ∷ []) (codes "(") write_open) within in
+    let filed : WritesFreely (Text s.file ∷ Sign Open ∷ inside)
+    (quoted s.file ++ (codes " (" ++ tail)) =
+    write_then free (Text s.file ∷ []) (Sign Open ∷ inside) (quoted s.file) (codes " (" ++ tail)
+    (write_quoted s.file h.1.1.1.0) opened in
+    let come : WritesFreely (Keyword keyword.From ∷ Text s.file ∷ Sign Open ∷ inside)
+    (codes " from " ++ (quoted s.file ++ (codes " (" ++ tail))) =
+    write_then free (Keyword keyword.From ∷ []) (Text s.file ∷ Sign Open ∷ inside) (codes " from ")
+    (quoted s.file ++ (codes " (" ++ tail))
+    (write_space_before free (Keyword keyword.From ∷ []) (codes "from ")
+    (word_then keyword.From)) filed in
+    let named : WritesFreely (Name s.name ∷ Keyword keyword.From ∷ Text s.file ∷ Sign Open ∷ inside)
+    (s.name ++ (codes " from " ++ (quoted s.file ++ (codes " (" ++ tail)))) =
+    write_apart_then free (Name s.name ∷ [])
+    (Keyword keyword.From ∷ Text s.file ∷ Sign Open ∷ inside) s.name
+    (codes " from " ++ (quoted s.file ++ (codes " (" ++ tail))) (λ more. refl)
+    (write_name s.name h.1.0.1.1 h.1.0.1.2) come in
+    let whole : WritesFreely
+    (Keyword keyword.Source ∷ Name s.name ∷ Keyword keyword.From ∷ Text s.file ∷ Sign Open ∷ inside) (codes "source " ++ (s.name ++ (codes " from " ++ (quoted s.file ++ (codes " (" ++ tail))))) =
+    write_then free (Keyword keyword.Source ∷ [])
+    (Name s.name ∷ Keyword keyword.From ∷ Text s.file ∷ Sign Open ∷ inside) (codes "source ")
+    (s.name ++ (codes " from " ++ (quoted s.file ++ (codes " (" ++ tail))))
+    (word_then keyword.Source) named in
+    subst (λ (z : List ℕ). WritesFreely
+    (Keyword keyword.Source ∷ Name s.name ∷ Keyword keyword.From ∷ Text s.file ∷ Sign Open ∷ inside) z)
+    (sym (regroup (codes "source ") s.name (codes " from ") (quoted s.file)
+    (codes " (" ++ tail))) whole
+
+write_sources : (ss : List SourceDecl) (ks : List TokenKind) → AreSources ss ks → AreSpelled ks
+    → WritesFreely ks (sources_text ss)
+write_sources _ _ (grammar.AreSources.last s ks is) h = subst (λ (z : List ℕ). WritesFreely ks z)
+    (sym (append-nil (source_line s))) (write_source s ks is h)
+write_sources _ _ (grammar.AreSources.more s ss ks ls is are) h =
+    write_then free ks ls (source_line s) (sources_text ss)
+    (write_source s ks is (spelled_left ks ls h))
+    (write_sources ss ls are (spelled_right ks ls h))
+
+-- ---- the query
+
+-- wherever the text stands, its tokens are a sentence of the query
+record QueryPrinted (q : Query) : Type 0 where
+  kinds : List TokenKind
+  is : IsQueryText q kinds
+  writes : WritesFreely kinds (query_text q)
+
+printed_by : (q : Query) (ks : List TokenKind) → IsQuery q ks → IsQueryText q ks → AreSpelled ks
+    → QueryPrinted q
+printed_by _ _ (query q ss ps are it) is h =
+    let spelled = spelled_right ss (Keyword keyword.Plan ∷ ps) h in
+    let p = plan_again (names_of q.sources) q.plan ps
+    (record { spells = it; depth = is.depth; exprs = is.exprs; lists = is.lists }) spelled.1 in
+    let line : WritesFreely (Keyword keyword.Plan ∷ p.kinds) (plan_line q.sources q.plan) =
+    write_then free (Keyword keyword.Plan ∷ []) p.kinds (codes "plan ")
+    (plan_text (names_of q.sources) q.plan ++ codes "\n") (word_then keyword.Plan)
+    (write_line p.kinds (plan_text (names_of q.sources) q.plan) p.writes) in
+    record {
+      kinds = ss ++ (Keyword keyword.Plan ∷ p.kinds);
+      is = record {
+        named = record {
+          spells = query q ss p.kinds are p.is.spells;
+          sources_once =
+              is.named.sources_once;
+          columns_once = is.named.columns_once;
+        };
+        sources = is.sources;
+        columns = is.columns;
+        depth = is.depth;
+        exprs = is.exprs;
+        lists = is.lists;
+      };
+      writes = write_then free ss (Keyword keyword.Plan ∷ p.kinds) (sources_text q.sources)
+          (plan_line q.sources q.plan)
+          (write_sources q.sources ss are (spelled_left ss (Keyword keyword.Plan ∷ ps) h)) line;
+    }
+
+the_end : (n : ℕ) → Tokens n [] (record { at = n; kind = End } ∷ [])
+the_end n = lexed.stopped [] [] (record { at = n; kind = End })
+    (record {
+      past_gap = record { gap = []; parts = refl; is_gap = gaps.none; longest = tt };
+      place = omega arith;
+    }) refl
+
+text_of_printed : (q : Query) → QueryPrinted q → IsTextOfQuery q (query_text q)
+text_of_printed q p =
+    let n = length (query_text q) in
+    let end : Token = record { at = n; kind = End } in
+    let short : length (query_text q ++ []) ≤ n =
+    subst (λ (z : List ℕ). length z ≤ n) (sym (append-nil (query_text q))) (omega arith) in
+    let made = p.writes.begins n [] (end ∷ []) short tt (the_end n) in
+    record {
+      tokens = made.front ++ (end ∷ []);
+      are = subst (λ (z : List ℕ). Tokens n z (made.front ++ (end ∷ [])))
+          (append-nil (query_text q)) made.whole;
+      spells = (
+        p.kinds,
+        p.is,
+        kinds-append made.front (end ∷ [])
+            ∙ ap (λ (z : List TokenKind). z ++ (End ∷ [])) made.are,
+      );
+    }
+
+pub printed : (q : Query) → HasText q → IsTextOfQuery q (query_text q)
+printed q h =
+    let t = h.1 in
+    text_of_printed q
+    (printed_by q t.spells.0 t.spells.1.named.spells t.spells.1
+    (spelled_front (length h.0) h.0 t.tokens t.are t.spells.0 t.spells.2))

@@ -1,0 +1,215 @@
+// Printing queries.
+ghost use Rattle.std.specs.Prelude.{◌≡◌, ◌++◌, OnOk, OnErr};
+ghost use Rattle.std.specs.Fmt.{decimal};
+ghost use Rattle.pipes_tuple.specs.Texts.{quoted};
+ghost use Rattle.pipes_text.specs.Texts.{IsTextOfQuery};
+ghost use Rattle.pipes_text.specs.Printing.{HasText, with_plan};
+ghost use Rattle.pipes_text.specs.Printing as spec;
+
+use crate::names::names_of;
+use itoa::Buffer;
+use pipes_plan::Plan;
+use pipes_query::{Query, SourceDecl};
+use pipes_time::Memory;
+use pipes_tuple::{Kind, Text, Value};
+use pipes_window::WindowKind;
+use std::alloc::Global;
+
+// Appends the bytes.
+fn push(bytes: &[u8], out: &mut Vec<u8>) -> Result<(), Memory>
+    ensures ok { OnOk result (out.new.items ≡ out.old.items ++ bytes.now) }
+    ensures err { OnErr result (out.new.items ≡ out.old.items) }
+{
+    match out.extend_from_slice(bytes) {
+        Ok(()) => Ok(()),
+        Err(_) => Err(Memory),
+    }
+}
+
+// Appends the number in decimal.
+fn push_number(number: u64, out: &mut Vec<u8>) -> Result<(), Memory>
+    ensures { OnOk result (out.new.items ≡ out.old.items ++ decimal number) }
+{
+    push(Buffer::new().format(number).as_bytes(), out)
+}
+
+/// The word for the kind: `int`, `text` or `flag`.
+pub fn kind_text(kind: Kind) -> &'static [u8]
+    ensures { result.now ≡ spec.kind_text kind }
+{
+    match kind {
+        Kind::Int => b"int",
+        Kind::Text => b"text",
+        Kind::Flag => b"flag",
+    }
+}
+
+// Appends a column.
+fn push_column(name: &Text, kind: Kind, out: &mut Vec<u8>) -> Result<(), Memory>
+    ensures { OnOk result (out.new.items ≡ out.old.items ++ spec.column_text name.now kind) }
+{
+    push(name.as_str().as_bytes(), out)?;
+    push(b" ", out)?;
+    push(kind_text(kind), out)
+}
+
+// Appends the other columns, each after a comma.
+fn push_more_columns(names: &[Text], kinds: &[Kind], out: &mut Vec<u8>) -> Result<(), Memory>
+    ensures { OnOk result
+        (out.new.items ≡ out.old.items ++ spec.more_columns_text names.now kinds.now) }
+{
+    match names {
+        [] => Ok(()),
+        [name, names @ ..] => match kinds {
+            [] => Ok(()),
+            [kind, kinds @ ..] => {
+                push(b", ", out)?;
+                push_column(name, *kind, out)?;
+                push_more_columns(names, kinds, out)
+            }
+        },
+    }
+}
+
+// Appends all columns.
+fn push_columns(names: &[Text], kinds: &[Kind], out: &mut Vec<u8>) -> Result<(), Memory>
+    ensures { OnOk result (out.new.items ≡ out.old.items ++ spec.columns_text names.now kinds.now) }
+{
+    match names {
+        [] => Ok(()),
+        [name, names @ ..] => match kinds {
+            [] => Ok(()),
+            [kind, kinds @ ..] => {
+                push_column(name, *kind, out)?;
+                push_more_columns(names, kinds, out)
+            }
+        },
+    }
+}
+
+// Appends a window.
+fn push_window(window: WindowKind, out: &mut Vec<u8>) -> Result<(), Memory>
+    ensures { OnOk result (out.new.items ≡ out.old.items ++ spec.window_text window) }
+{
+    match window {
+        WindowKind::Time(size) => {
+            push(b"time ", out)?;
+            push_number(size, out)
+        }
+        WindowKind::Slide(size, slide) => {
+            push(b"time ", out)?;
+            push_number(size, out)?;
+            push(b" slide ", out)?;
+            push_number(slide, out)
+        }
+        WindowKind::Count(size) => {
+            push(b"count ", out)?;
+            push_number(size as u64, out)
+        }
+    }
+}
+
+// Appends a text between quotes.
+fn push_quoted(text: &Text, out: &mut Vec<u8>) -> Result<(), Memory>
+    ensures { OnOk result (out.new.items ≡ out.old.items ++ quoted text.now) }
+{
+    Value::Text(text.copy()?).print(out)
+}
+
+// Appends a source's name and file.
+fn push_head(source: &SourceDecl, out: &mut Vec<u8>) -> Result<(), Memory>
+    ensures { OnOk result (out.new.items ≡ out.old.items ++ spec.head_text source.now) }
+{
+    push(b"source ", out)?;
+    push(source.name.as_str().as_bytes(), out)?;
+    push(b" from ", out)?;
+    push_quoted(&source.file, out)
+}
+
+// Appends how late its rows may come, where they may.
+fn push_slack(slack: u64, out: &mut Vec<u8>) -> Result<(), Memory>
+    ensures { OnOk result (out.new.items ≡ out.old.items ++ spec.slack_text slack) }
+{
+    if slack == 0 {
+        return Ok(());
+    }
+    push(b" slack ", out)?;
+    push_number(slack, out)
+}
+
+// Appends its columns, slack and window.
+fn push_shape(source: &SourceDecl, out: &mut Vec<u8>) -> Result<(), Memory>
+    ensures { OnOk result (out.new.items ≡ out.old.items ++ spec.shape_text source.now) }
+{
+    push(b" (", out)?;
+    push_columns(source.names.as_slice(), source.schema.as_slice(), out)?;
+    push(b")", out)?;
+    push_slack(source.slack, out)?;
+    push(b" window ", out)?;
+    push_window(source.window, out)?;
+    push(b"\n", out)
+}
+
+// Appends a source's line.
+fn push_source(source: &SourceDecl, out: &mut Vec<u8>) -> Result<(), Memory>
+    ensures { OnOk result (out.new.items ≡ out.old.items ++ spec.source_line source.now) }
+{
+    push_head(source, out)?;
+    push_shape(source, out)
+}
+
+// Appends the sources' lines.
+fn push_sources(sources: &[SourceDecl], out: &mut Vec<u8>) -> Result<(), Memory>
+    ensures { OnOk result (out.new.items ≡ out.old.items ++ spec.sources_text sources.now) }
+{
+    match sources {
+        [] => Ok(()),
+        [source, others @ ..] => {
+            push_source(source, out)?;
+            push_sources(others, out)
+        }
+    }
+}
+
+// Appends the plan's line.
+fn push_plan(sources: &[SourceDecl], plan: &Plan, out: &mut Vec<u8>) -> Result<(), Memory>
+    ensures { OnOk result (out.new.items ≡ out.old.items ++ spec.plan_line sources.now plan.now) }
+{
+    let names = names_of(*out.allocator(), sources)?;
+    push(b"plan ", out)?;
+    pipes_print::print_plan(names.as_slice(), plan, out)?;
+    push(b"\n", out)
+}
+
+/// Appends the text of the query: a line for each source, and one for the plan. When memory runs
+/// out,
+/// `out` is as before.
+#[tactic(auto, using(crate::proofs::PrintLaws::printed))]
+pub fn print_query(query: &Query, out: &mut Vec<u8>) -> Result<(), Memory>
+    ensures ok { OnOk result (out.new.items ≡ out.old.items ++ spec.query_text query.now) }
+    ensures err { OnErr result (out.new.items ≡ out.old.items) }
+    // A query that some text has is read back.
+    ensures read_back { HasText query.now → IsTextOfQuery query.now (spec.query_text query.now) }
+{
+    let mut text = Vec::new(*out.allocator());
+    push_sources(query.sources.as_slice(), &mut text)?;
+    push_plan(query.sources.as_slice(), &query.plan, &mut text)?;
+    push(text.as_slice(), out)
+}
+
+/// Appends the line of a plan over the query's sources. When memory runs out,
+/// `out` is as before.
+#[tactic(auto, using(crate::proofs::PrintLaws::printed))]
+pub fn print_plan(query: &Query, plan: &Plan, out: &mut Vec<u8>) -> Result<(), Memory>
+    ensures ok { OnOk result
+        (out.new.items ≡ out.old.items ++ spec.plan_line query.now.sources plan.now) }
+    ensures err { OnErr result (out.new.items ≡ out.old.items) }
+    // After the lines of the sources it is read back, where some text has the query with this plan.
+    ensures read_back { HasText (with_plan query.now plan.now)
+        → IsTextOfQuery (with_plan query.now plan.now)
+        (spec.sources_text query.now.sources ++ spec.plan_line query.now.sources plan.now) }
+{
+    let mut text = Vec::new(*out.allocator());
+    push_plan(query.sources.as_slice(), plan, &mut text)?;
+    push(text.as_slice(), out)
+}

@@ -1,0 +1,3 @@
+pub mod Rising
+pub mod Slides
+pub mod Times
