@@ -69,10 +69,10 @@ answers-one task a n held given passed list keeps one child l = record {
       (elements list) l.spans;
 }
 
-wider-left : (xs ys : List Elem) (e : Elem) → IsCovered xs e → IsCovered (xs ++ ys) e
+pub wider-left : (xs ys : List Elem) (e : Elem) → IsCovered xs e → IsCovered (xs ++ ys) e
 wider-left xs ys e c = (c.0, Contains-append_left xs ys c.0 c.1, c.2, c.3)
 
-wider-right : (xs ys : List Elem) (e : Elem) → IsCovered ys e → IsCovered (xs ++ ys) e
+pub wider-right : (xs ys : List Elem) (e : Elem) → IsCovered ys e → IsCovered (xs ++ ys) e
 wider-right xs ys e c = (c.0, Contains-append_right xs ys c.0 c.1, c.2, c.3)
 
 pub answers-two : (task : Task) (a b : Shape) (n held : ℕ) (given passed : Lists) (list : List Message) → KeepsBags task → task.ports ≡ 2 → Answers a n given (passed 0) → Answers b (n + leaf_count a) given (passed 1) → Lawful task passed list held

@@ -24,7 +24,7 @@ use Rattle.pipes_box.proofs.Answering.{answers-prefix}
 use Rattle.pipes_box.proofs.Network.{network}
 use Rattle.pipes_box.proofs.Built.{get-before, no-length}
 
-some-node : (ns : List Node) → 0 < length ns → Node
+pub some-node : (ns : List Node) → 0 < length ns → Node
 some-node [] h = absurd (omega (arith, h))
 some-node (n ∷ ns) h = n
 

@@ -5,10 +5,15 @@ pub mod Emitting
 pub mod NodeSteps
 pub mod Answering
 pub mod Network
+pub mod Prompting
 pub mod Pieces
 pub mod Looks
 pub mod Built
 pub mod Plans
+pub mod Meanings
 pub mod BoxLaw
+pub mod Totals
 pub mod Rounds
+pub mod Stillness
+pub mod Moving
 pub mod Giving

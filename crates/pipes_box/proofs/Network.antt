@@ -30,7 +30,7 @@ emits-task (Some op) task passed out pending t e =
       some-same : (x y : Task) → ◌≡◌ {A = Option Task} (Some x) (Some y) → x ≡ y
       some-same x y h = cc
 
-some-port : (ps : List Port) → 0 < length ps → Port
+pub some-port : (ps : List Port) → 0 < length ps → Port
 some-port [] h = absurd (omega (arith, h))
 some-port (p ∷ ps) h = p
 

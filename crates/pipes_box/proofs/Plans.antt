@@ -23,16 +23,16 @@ use Rattle.pipes_box.specs.Networks.{leaves_of}
 use Rattle.pipes_box.specs.Parts.{Adds, AddsTask, IsNew, PartHolds, PartBuilt}
 use Rattle.pipes_box.proofs.Built.{holds-more, one-holds, one-new, two-holds, two-new, leaf-holds, leaf-new}
 
-shape-Source : (ss : List (List Kind)) (i : ℕ) → shape_of ss (Source i) ≡ Leaf i (unwrap_or (slice_get ss i) [])
+pub shape-Source : (ss : List (List Kind)) (i : ℕ) → shape_of ss (Source i) ≡ Leaf i (unwrap_or (slice_get ss i) [])
 shape-Source ss i = search (rules, the_lemmas)
 
-shape-Filter : (ss : List (List Kind)) (p : Expr) (a : Plan) → shape_of ss (Filter p a) ≡ One (filter_task p (gives_of (shape_of ss a))) (shape_of ss a)
+pub shape-Filter : (ss : List (List Kind)) (p : Expr) (a : Plan) → shape_of ss (Filter p a) ≡ One (filter_task p (gives_of (shape_of ss a))) (shape_of ss a)
 shape-Filter ss p a = search (rules, the_lemmas)
 
-shape-Map : (ss : List (List Kind)) (es : List Expr) (a : Plan) → shape_of ss (Map es a) ≡ One (map_task es (gives_of (shape_of ss a))) (shape_of ss a)
+pub shape-Map : (ss : List (List Kind)) (es : List Expr) (a : Plan) → shape_of ss (Map es a) ≡ One (map_task es (gives_of (shape_of ss a))) (shape_of ss a)
 shape-Map ss es a = search (rules, the_lemmas)
 
-shape-Union : (ss : List (List Kind)) (a b : Plan) → shape_of ss (Union a b) ≡ Two (union_task (gives_of (shape_of ss a))) (shape_of ss a) (shape_of ss b)
+pub shape-Union : (ss : List (List Kind)) (a b : Plan) → shape_of ss (Union a b) ≡ Two (union_task (gives_of (shape_of ss a))) (shape_of ss a) (shape_of ss b)
 shape-Union ss a b = search (rules, the_lemmas)
 
 keeps-filter : (p : Expr) (ks : List Kind) → KeepsBags (filter_task p ks)

@@ -8,7 +8,7 @@ use Rattle.pipes_stream.specs.Lists.{start_of_list}
 use Rattle.pipes_stream.specs.Lawful.{Lists, Task}
 use Rattle.pipes_link.specs.declared.outlet.Outlet.{Outlet}
 use Rattle.pipes_link.specs.declared.inlet.Inlet.{Inlet}
-use Rattle.pipes_link.specs.Ends.{sent, spare, taken, known, AreEnds, SameOutlet, SameInlet}
+use Rattle.pipes_link.specs.Ends.{sent, spare, room_of, taken, known, ready, AreEnds, SameOutlet, SameInlet}
 use Rattle.pipes_link.proofs.Keeping.{ends_keep, same_inlet_self, same_outlet_self}
 use Rattle.pipes_plan.specs.declared.plan.Plan.{Plan}
 use Rattle.pipes_box.specs.declared.operator.PlanOperator.{PlanOperator}
@@ -20,6 +20,7 @@ use Rattle.pipes_box.specs.Passing.{Passes}
 use Rattle.pipes_box.specs.Shapes.{Shape, Leaf, One, Two, shape_of, node_count, leaf_count, IsProper}
 use Rattle.pipes_box.specs.Networks.{EndsHold, LinkHolds, IsLinked, IsWired, LeavesGave, ChildAt, root_of, Settles}
 use Rattle.pipes_box.specs.Boxes.{IsSound, BoxStands}
+use Rattle.pipes_box.specs.Rounds.{TopLooks}
 use Rattle.pipes_box.proofs.NodeSteps.{place, get-any}
 use Rattle.pipes_box.proofs.Looks.{node_looks-self, looks-outlet, with_outlet}
 
@@ -69,7 +70,7 @@ no-ports : (ps : List Port) → length ps ≡ 0 → total_ready ps ≡ 0
 no-ports [] h = refl
 no-ports (p ∷ ps) h = absurd (omega (arith, h))
 
-no-more : (xs : List Message) → length xs ≡ 0 → xs ≡ []
+pub no-more : (xs : List Message) → length xs ≡ 0 → xs ≡ []
 no-more [] h = refl
 no-more (x ∷ xs) h = absurd (omega (arith, h))
 
@@ -323,6 +324,23 @@ module _ (old new : PlanBox) (out : Outlet Message) (t : TopSettled old new out)
             (λ k h. looks-keeps (get_or old.nodes.items k d) (get_or new.nodes.items k d) (top-looks k d h)) given (shape_of schemas plan) 0 0 size (λ k h x. (top-looks k d h).sent) (b.wired d) (b.gave d);
         fits = b.fits;
         got_is = b.got_is ∙ sym t.taken_same;
+      }
+
+  -- both ends of the top link know each place and each message of it
+  pub top-looked : ready old.top ≤ ready new.top → room_of out ≤ spare out + ready new.top → TopLooks old new
+  top-looked more all =
+      let at : (k : ℕ) (d : Node) → k + 1 ≡ length old.nodes.items → out ≡ (get_or new.nodes.items k d).outlet =
+      λ k d last.
+      let same : t.root ≡ k = omega (arith, last, t.root_is) in
+      subst (λ (z : ℕ). out ≡ (get_or new.nodes.items z d).outlet) same
+      (sym (ap (λ (ns : List Node). (get_or ns t.root d).outlet) (t.nodes d) ∙ ap (λ (n : Node). n.outlet) (get_or-set_same old.nodes.items t.root (with_outlet (get_or old.nodes.items t.root d) out) d top-there))) in
+      record {
+        count = top-count;
+        looks = top-looks;
+        taken_same = t.taken_same;
+        more_known = more;
+        waits = λ k d last. t.waits ∙ ap (λ (o : Outlet Message). sent o) (at k d last);
+        all_known = λ k d last. subst (λ (o : Outlet Message). room_of o ≤ spare o + ready new.top) (at k d last) all;
       }
 
 -- a message was taken from the top

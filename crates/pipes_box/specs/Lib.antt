@@ -4,6 +4,8 @@ pub mod Operators
 pub mod Passing
 pub mod Nodes
 pub mod Shapes
+pub mod Prompt
 pub mod Networks
+pub mod Rounds
 pub mod Parts
 pub mod Boxes

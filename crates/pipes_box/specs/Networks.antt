@@ -1,4 +1,5 @@
--- A plan at work: which nodes it has, and how they are linked. Children stand before their parents in the list of nodes, and the root last.
+-- A plan at work: which nodes it has, and how they are linked. Children stand before their parents
+-- in the list of nodes, and the root last.
 use Rattle.std.specs.Prelude.{◌≡◌, ℕ, ◌+◌, ◌<◌, ◌≤◌, ◌⊎◌, List, [], ◌∷◌, ◌++◌, length, get_or, Some, None}
 use Rattle.pipes_stream.specs.declared.message.Message.{Message}
 use Rattle.pipes_stream.specs.Lawful.{Lists, Task}
@@ -11,7 +12,8 @@ use Rattle.pipes_box.specs.declared.node.Node.{Node}
 use Rattle.pipes_box.specs.Shapes.{Shape, Leaf, One, Two, node_count, leaf_count, gives_of}
 use Rattle.pipes_box.specs.Nodes.{IsCounted, NodeLooks, task_in}
 
--- the two ends are of one link, and what was taken there and is known to wait is a prefix of what was put in
+-- the two ends are of one link, and what was taken there and is known to wait is a prefix of what
+-- was put in
 pub record EndsHold (outlet : Outlet Message) (inlet : Inlet Message) : Type 0 where
   pub ends : AreEnds outlet inlet
   pub rest : List Message
@@ -23,8 +25,11 @@ LinkHolds outlet p = EndsHold outlet p.inlet
 -- each port's link holds, from the outlet of an earlier node
 pub record IsLinked (nodes : List Node) : Type 0 where
   pub counted : (k : ℕ) (d : Node) → k < length nodes → IsCounted (get_or nodes k d)
-  pub earlier : (k : ℕ) (d : Node) (i : ℕ) (e : Port) → k < length nodes → i < length (get_or nodes k d).ports.items → (get_or (get_or nodes k d).ports.items i e).child < k
-  pub links : (k : ℕ) (d : Node) (i : ℕ) (e : Port) → k < length nodes → i < length (get_or nodes k d).ports.items
+  pub earlier : (k : ℕ) (d : Node) (i : ℕ) (e : Port) → k < length nodes
+      → i < length (get_or nodes k d).ports.items
+      → (get_or (get_or nodes k d).ports.items i e).child < k
+  pub links : (k : ℕ) (d : Node) (i : ℕ) (e : Port) → k < length nodes
+      → i < length (get_or nodes k d).ports.items
       → LinkHolds (get_or nodes (get_or (get_or nodes k d).ports.items i e).child d).outlet (get_or (get_or nodes k d).ports.items i e)
 
 -- the place of the plan's root, its nodes beginning at i
@@ -36,7 +41,8 @@ root_of (Two task a b) i = i + (node_count a + node_count b)
 abbrev pub ChildAt : Node → ℕ → ℕ → Type 0
 ChildAt n port child = (e : Port) → (get_or n.ports.items port e).child ≡ child
 
--- the nodes from i on are those of the plan, one for each of its nodes, with its task and its children
+-- the nodes from i on are those of the plan, one for each of its nodes, with its task and its
+-- children
 abbrev pub IsWired : (ℕ → Node) → Shape → ℕ → Type 0
 IsWired node (Leaf source kinds) i = task_in (node i).operator ≡ None
 IsWired node (One task a) i = IsWired node a i × (task_in (node (i + node_count a)).operator ≡ Some task) × ChildAt (node (i + node_count a)) 0 (root_of a i)
@@ -44,7 +50,8 @@ IsWired node (Two task a b) i =
     IsWired node a i × IsWired node b (i + node_count a) × (task_in (node (i + (node_count a + node_count b))).operator ≡ Some task)
     × ChildAt (node (i + (node_count a + node_count b))) 0 (root_of a i) × ChildAt (node (i + (node_count a + node_count b))) 1 (root_of b (i + node_count a))
 
--- what was given at the leaves, which are numbered from n on, is what was put into the outlets of their nodes
+-- what was given at the leaves, which are numbered from n on, is what was put into the outlets of
+-- their nodes
 abbrev pub LeavesGave : (ℕ → Node) → Shape → ℕ → ℕ → Lists → Type 0
 LeavesGave node (Leaf source kinds) i n given = given n ≡ sent (node i).outlet
 LeavesGave node (One task a) i n given = LeavesGave node a i n given
@@ -59,16 +66,20 @@ pub record SettledLink (outlet : Outlet Message) (p : Port) : Type 0 where
 pub record PortSettled (old new : List Node) (parent port : ℕ) : Type 0 where
   pub count : length new ≡ length old
   pub looks : (k : ℕ) (d : Node) → k < length old → NodeLooks (get_or old k d) (get_or new k d)
-  pub others : (k : ℕ) (d : Node) (i : ℕ) (e : Port) → k < length old → i < length (get_or old k d).ports.items → (k ≡ parent → i ≡ port → ⊥)
+  pub others : (k : ℕ) (d : Node) (i : ℕ) (e : Port) → k < length old
+      → i < length (get_or old k d).ports.items → (k ≡ parent → i ≡ port → ⊥)
       → get_or (get_or new k d).ports.items i e ≡ get_or (get_or old k d).ports.items i e
-  pub settled : (d : Node) (e : Port) → SettledLink (get_or new (get_or (get_or old parent d).ports.items port e).child d).outlet (get_or (get_or new parent d).ports.items port e)
+  pub settled : (d : Node) (e : Port)
+      → SettledLink (get_or new (get_or (get_or old parent d).ports.items port e).child d).outlet (get_or (get_or new parent d).ports.items port e)
 
--- the links of the ports before this one were settled: those of earlier nodes, and this node's earlier ports
+-- the links of the ports before this one were settled: those of earlier nodes, and this node's
+-- earlier ports
 pub record Settles (old new : List Node) (parent port : ℕ) : Type 0 where
   pub count : length new ≡ length old
   pub looks : (k : ℕ) (d : Node) → k < length old → NodeLooks (get_or old k d) (get_or new k d)
   pub linked : IsLinked new
-  pub settled : (k : ℕ) (d : Node) (i : ℕ) (e : Port) → k < length new → i < length (get_or new k d).ports.items → (k < parent) ⊎ ((k ≡ parent) × (i < port))
+  pub settled : (k : ℕ) (d : Node) (i : ℕ) (e : Port) → k < length new
+      → i < length (get_or new k d).ports.items → (k < parent) ⊎ ((k ≡ parent) × (i < port))
       → SettledLink (get_or new (get_or (get_or new k d).ports.items i e).child d).outlet (get_or (get_or new k d).ports.items i e)
 
 -- the leaves of the plan whose nodes begin at i, in preorder

@@ -12,7 +12,7 @@ use Rattle.pipes_box.specs.declared.operator.PlanOperator.{PlanOperator}
 use Rattle.pipes_box.specs.declared.port.Port.{Port}
 use Rattle.pipes_box.specs.declared.node.Node.{Node}
 use Rattle.pipes_box.specs.Says.{Says}
-use Rattle.pipes_box.specs.Operators.{task_of, StandsFor}
+use Rattle.pipes_box.specs.Operators.{task_of, StandsFor, held_by}
 use Rattle.pipes_box.specs.Passing.{MayPass, Passes}
 
 -- The port took its oldest message that was known to wait, and tested it.
@@ -43,6 +43,11 @@ abbrev pub task_in : Option PlanOperator → Option Task
 task_in None = None
 task_in (Some op) = Some (task_of op)
 
+-- the number of elements that the node's operator keeps
+abbrev pub held_in : Option PlanOperator → ℕ
+held_in None = 0
+held_in (Some op) = held_by op
+
 abbrev pub ports_of : Option Task → ℕ
 ports_of None = 0
 ports_of (Some task) = task.ports
@@ -67,24 +72,29 @@ abbrev pub EmitsIn : Option PlanOperator → Lists → List Message → List Mes
 EmitsIn None passed out pending = pending ≡ []
 EmitsIn (Some op) passed out pending = Emits op passed (out ++ pending)
 
--- The node's operator took the messages that passed at its ports, and sent what is in the outlet or pending.
+-- The node's operator took the messages that passed at its ports, and sent what is in the outlet or
+-- pending.
 pub record NodeStands (n : Node) : Type 0 where
   pub passed : Lists
-  pub ports : (k : ℕ) (d : Port) → k < length n.ports.items → PortStands (get_or n.ports.items k d) (passed k)
-  pub kinds : (k : ℕ) (d : Port) → k < length n.ports.items → kinds_at (task_in n.operator) k ≡ (get_or n.ports.items k d).schema
+  pub ports : (k : ℕ) (d : Port) → k < length n.ports.items
+      → PortStands (get_or n.ports.items k d) (passed k)
+  pub kinds : (k : ℕ) (d : Port) → k < length n.ports.items
+      → kinds_at (task_in n.operator) k ≡ (get_or n.ports.items k d).schema
   pub emits : EmitsIn n.operator passed (sent n.outlet) n.pending.items
 
 -- the messages known to wait at all ports
 abbrev pub total_ready : List Port → ℕ
 total_ready ports = sum_by (λ p. ready p.inlet) ports
 
--- what a node's turn never does otherwise, whatever it answers: messages are taken and put in order, in the same links
+-- what a node's turn never does otherwise, whatever it answers: messages are taken and put in
+-- order, in the same links
 pub record NodeMoves (old new : Node) : Type 0 where
   pub number : new.number ≡ old.number
   pub depth : new.depth ≡ old.depth
   pub task : task_in new.operator ≡ task_in old.operator
   pub count : length new.ports.items ≡ length old.ports.items
-  pub ports : (k : ℕ) (d : Port) → k < length old.ports.items → PortMoves (get_or old.ports.items k d) (get_or new.ports.items k d)
+  pub ports : (k : ℕ) (d : Port) → k < length old.ports.items
+      → PortMoves (get_or old.ports.items k d) (get_or new.ports.items k d)
   pub same_link : SameOutlet old.outlet new.outlet
   pub puts : (more : List Message) × (sent new.outlet ≡ sent old.outlet ++ more)
 
@@ -103,14 +113,16 @@ pub record NodeWorks (old new : Node) (port : ℕ) (m : Message) : Type 0 where
 
 abbrev pub EmitsMore : Node → Node → ℕ → Message → Type 0
 EmitsMore old new port m =
-    (passed : Lists) (out : List Message) → EmitsIn old.operator passed out old.pending.items → CanTakeIn (task_in old.operator) passed port m
+    (passed : Lists) (out : List Message) → EmitsIn old.operator passed out old.pending.items
+    → CanTakeIn (task_in old.operator) passed port m
     → EmitsIn new.operator (with_message passed port m) out new.pending.items
 
 -- nothing is known to wait at the port
 abbrev pub IsDrained : Node → ℕ → Type 0
 IsDrained n port = (d : Port) → port < length n.ports.items → ready (get_or n.ports.items port d).inlet ≡ 0
 
--- What a turn does where no memory is refused: it takes all that is known to wait, and puts what is pending while there is room.
+-- What a turn does where no memory is refused: it takes all that is known to wait, and puts what is
+-- pending while there is room.
 pub record Turned (old new : Node) : Type 0 where
   pub stands : NodeStands old → NodeStands new
   pub drained : total_ready new.ports.items ≡ 0
@@ -119,8 +131,11 @@ pub record Turned (old new : Node) : Type 0 where
   pub sent : length (sent new.outlet) ≡ length (sent old.outlet) + put
   pub moved : new.moved ≡ min (total_ready old.ports.items + put) (2 ^ 64 - 1)
   -- where it took nothing, what is pending grows by nothing, and is put if there is room
-  pub kept : total_ready old.ports.items ≡ 0 → length new.pending.items + put ≡ length old.pending.items
-  pub stuck : total_ready old.ports.items ≡ 0 → put ≡ 0 → 0 < spare old.outlet → old.pending.items ≡ []
+  pub kept : total_ready old.ports.items ≡ 0
+      → length new.pending.items + put ≡ length old.pending.items
+  pub stuck : total_ready old.ports.items ≡ 0 → put ≡ 0 → 0 < spare old.outlet
+      → old.pending.items ≡ []
+  pub places : put ≡ 0 → spare old.outlet ≤ spare new.outlet
 
 -- A turn, whatever it answers.
 pub record NodeTurned (old new : Node) : Type 0 where
@@ -129,7 +144,8 @@ pub record NodeTurned (old new : Node) : Type 0 where
   pub turned : new.failed ≡ false → Turned old new
   pub stays_failed : old.failed ≡ true → new.failed ≡ true
 
--- A look at the other ends of a node's links: nothing is taken or put, and no message or place that was known is forgotten.
+-- A look at the other ends of a node's links: nothing is taken or put, and no message or place that
+-- was known is forgotten.
 pub record PortLooks (old new : Port) : Type 0 where
   pub same_link : SameInlet old.inlet new.inlet
   pub watch : new.watch ≡ old.watch
@@ -144,7 +160,8 @@ pub record NodeLooks (old new : Node) : Type 0 where
   pub pending : new.pending ≡ old.pending
   pub failed : new.failed ≡ old.failed
   pub count : length new.ports.items ≡ length old.ports.items
-  pub ports : (k : ℕ) (d : Port) → k < length old.ports.items → PortLooks (get_or old.ports.items k d) (get_or new.ports.items k d)
+  pub ports : (k : ℕ) (d : Port) → k < length old.ports.items
+      → PortLooks (get_or old.ports.items k d) (get_or new.ports.items k d)
   pub same_link : SameOutlet old.outlet new.outlet
   pub sent : sent new.outlet ≡ sent old.outlet
   pub spare : spare old.outlet ≤ spare new.outlet

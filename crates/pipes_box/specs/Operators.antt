@@ -1,4 +1,5 @@
--- What the operators of a plan are there for and stand for, by kind: each kind has one line in each definition.
+-- What the operators of a plan are there for and stand for, by kind: each kind has one line in each
+-- definition.
 use Rattle.std.specs.Prelude.{ℕ, Bool, List, length}
 use Rattle.pipes_stream.specs.declared.message.Message.{Message}
 use Rattle.pipes_stream.specs.Lawful.{Lists, Task, Lawful}
@@ -30,7 +31,8 @@ held_by (operator.Filter f) = 0
 held_by (operator.Map m) = 0
 held_by (operator.Union u) = length u.hold
 
-pub lawful_of : (op : PlanOperator) (taken : Lists) (sent : List Message) → StandsFor op taken sent → Lawful (task_of op) taken sent (held_by op)
+pub lawful_of : (op : PlanOperator) (taken : Lists) (sent : List Message) → StandsFor op taken sent
+    → Lawful (task_of op) taken sent (held_by op)
 lawful_of (operator.Filter f) taken sent s = filter_lawful f taken sent s
 lawful_of (operator.Map m) taken sent s = map_lawful m taken sent s
 lawful_of (operator.Union u) taken sent s = union_lawful u taken sent s

@@ -10,7 +10,8 @@ use Rattle.pipes_stream.specs.Lawful.{MessageFits}
 abbrev pub MayPass : List Kind → Progress → Message → Type 0
 MayPass kinds p m = CanFollow p m × MessageFits m kinds
 
--- the messages that passed after p: each that may come after those that passed before it, and no other
+-- the messages that passed after p: each that may come after those that passed before it, and no
+-- other
 abbrev pub Passes : List Kind → Progress → List Message → List Message → Type 0
 Passes kinds p [] passed = passed ≡ []
 Passes kinds p (m ∷ taken) passed =

@@ -12,6 +12,7 @@ use Rattle.pipes_stream.specs.Lists.{Valid, beat, elements}
 use Rattle.pipes_stream.specs.Lawful.{Lists, Task, IsCovered}
 use Rattle.pipes_plan.specs.declared.plan.Plan.{Plan, fold-Plan}
 use Rattle.pipes_plan.specs.declared.plan.Plan.TheOpen.{Plan-F, Source, Filter, Map, Union, Join, Distinct, Group, Minus}
+use Rattle.pipes_plan.specs.Algebra.{alg}
 use Rattle.pipes_flat.specs.Tasks.{filter_task, map_task, union_task}
 
 -- The leaves are sources, each with its number and the kinds of its tuples.
@@ -94,9 +95,25 @@ pub record Answers (shape : Shape) (n : ℕ) (given : Lists) (list : List Messag
   -- nothing in it starts below the heartbeat of what comes before
   pub valid : Valid list
   pub fits : All (λ e. Fits e.tuple (gives_of shape)) (elements list)
-  pub answer : (t : ℕ) → t < beat list → SameBag (snapshot (elements list) t) (meaning_of shape n (λ leaf. snapshot (elements (given leaf)) t))
+  pub answer : (t : ℕ) → t < beat list
+      → SameBag (snapshot (elements list) t) (meaning_of shape n (λ leaf. snapshot (elements (given leaf)) t))
   -- each element's span is a part of the span of one that was given
   pub spans : All (IsCovered (leaf_elements shape n given)) (elements list)
+
+-- the bag of each leaf is that of its source
+abbrev pub AtSources : Shape → ℕ → (ℕ → List (List Value)) → List (List (List Value)) → Type 0
+AtSources (Leaf source kinds) n bags sources = bags n ≡ unwrap_or (slice_get sources source) []
+AtSources (One task a) n bags sources = AtSources a n bags sources
+AtSources (Two task a b) n bags sources =
+    AtSources a n bags sources × AtSources b (n + leaf_count a) bags sources
+
+-- Below its heartbeat the list is what the algebra makes of the sources' bags, where each leaf was
+-- given its source.
+abbrev pub FollowsPlan : List (List Kind) → Plan → Lists → List Message → Type 0
+FollowsPlan schemas plan given list =
+    (t : ℕ) (sources : List (List (List Value))) → t < beat list
+    → AtSources (shape_of schemas plan) 0 (λ leaf. snapshot (elements (given leaf)) t) sources
+    → SameBag (snapshot (elements list) t) (alg plan sources)
 
 -- the task makes the same bag of the same bags at its ports
 abbrev pub KeepsBags : Task → Type 0

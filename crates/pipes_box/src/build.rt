@@ -23,7 +23,8 @@ use pipes_tuple::Schema;
 use std::alloc::Global;
 use std::collections::VecDeque;
 
-// A part of a plan that is built: where its root's messages come out, and the schema of their tuples.
+// A part of a plan that is built: where its root's messages come out, and the schema of their
+// tuples.
 #[derive(Drop)]
 pub(crate) struct Part {
     pub(crate) inlet: Inlet<Message>,

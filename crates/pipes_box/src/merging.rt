@@ -18,8 +18,8 @@ fn heartbeat(message: &Message) -> u64
     }
 }
 
-// Appends the message. A Beat that is not above `level`, the heartbeat until then, is left out, and one that is last gives its place to
-// the message.
+// Appends the message. A Beat that is not above `level`, the heartbeat until then, is left out, and
+// one that is last gives its place to the message.
 fn append_merged(
     pending: &mut VecDeque<Message>,
     level: &mut u64,
@@ -46,7 +46,8 @@ fn append_merged(
     Ok(())
 }
 
-// Appends all the messages in their order, and takes them out of `fresh`. Without memory some may be lost.
+// Appends all the messages in their order, and takes them out of `fresh`. Without memory some may
+// be lost.
 pub(crate) fn move_merged(
     fresh: &mut Vec<Message>,
     pending: &mut VecDeque<Message>,

@@ -1,5 +1,5 @@
 // A node of a plan at work.
-ghost use Rattle.std.specs.Prelude.{◌≡◌, ◌≤◌, ◌<◌, ◌+◌, ◌++◌, [], ◌∷◌, length, List, IfOk, IsErr, OnOk, OnErr, true, false};
+ghost use Rattle.std.specs.Prelude.{◌≡◌, ◌≤◌, ◌<◌, ◌+◌, ◌-◌, ◌^◌, min, ◌++◌, [], ◌∷◌, length, List, IfOk, IsErr, OnOk, OnErr, true, false};
 ghost use Rattle.std.specs.Bool.{OnTrue, OnFalse};
 ghost use Rattle.pipes_stream.specs.declared.message.Message.{Message as Sent};
 ghost use Rattle.pipes_stream.specs.Lawful.{Lists, CanTake, with_message};
@@ -16,8 +16,9 @@ use pipes_stream::{Message, Operator};
 use pipes_time::Memory;
 use std::collections::VecDeque;
 
-/// A node of a plan at work: its operator, the ports from which it takes, the outlet into which it puts, and what it has sent and the
-/// outlet could not take yet. A source has no operator and no port: what is given there goes into its outlet.
+/// A node of a plan at work: its operator, the ports from which it takes, the outlet into which it
+/// puts, and what it has sent and the outlet could not take yet. A source has no operator and no
+/// port: what is given there goes into its outlet.
 #[derive(Drop)]
 pub struct Node {
     pub(crate) number: u32,
@@ -41,8 +42,10 @@ fn send_for(
 ) -> Result<(), Memory>
     requires { port < (task_of operator.old).ports }
     ensures same_task { task_of operator.new ≡ task_of operator.old }
-    ensures emits { OnOk result ((passed : Lists) (out : List Sent) → Emits operator.old passed (out ++ pending.old.items)
-        → CanTake (task_of operator.old) passed port message → Emits operator.new (with_message passed port message) (out ++ pending.new.items)) }
+    ensures emits { OnOk result ((passed : Lists) (out : List Sent)
+        → Emits operator.old passed (out ++ pending.old.items)
+        → CanTake (task_of operator.old) passed port message
+        → Emits operator.new (with_message passed port message) (out ++ pending.new.items)) }
 {
     fresh.clear();
     let mut level = operator.beat_now();
@@ -51,9 +54,10 @@ fn send_for(
 }
 
 impl Node {
-    ghost use Rattle.pipes_box.specs.Nodes.{IsCounted, IsDrained, EmitsMore, Turned, NodeMoves, NodeStands, NodeWorks, total_ready, task_in, ports_of};
+    ghost use Rattle.pipes_box.specs.Nodes.{IsCounted, IsDrained, held_in, EmitsMore, Turned, NodeMoves, NodeStands, NodeWorks, total_ready, task_in, ports_of};
 
-    // Lets the operator take a message that passed at a port. A source has no port, and so takes none.
+    // Lets the operator take a message that passed at a port. A source has no port, and so takes
+    // none.
     fn work(&mut self, port: u32, message: Message) -> Result<(), Memory>
         requires { port < ports_of (task_in self.old.operator) }
         ensures works { NodeWorks self.old self.new port message }
@@ -140,6 +144,7 @@ impl Node {
         ensures none { OnFalse result (self.new.pending.items ≡ self.old.pending.items) }
         ensures none_sent { OnFalse result (sent self.new.outlet ≡ sent self.old.outlet) }
         ensures stuck { OnFalse result (0 < spare self.old.outlet → self.old.pending.items ≡ []) }
+        ensures places { OnFalse result (spare self.old.outlet ≤ spare self.new.outlet) }
         ensures going { self.new.failed ≡ self.old.failed }
         ensures operator { self.new.operator ≡ self.old.operator }
         ensures ports { self.new.ports ≡ self.old.ports }
@@ -164,6 +169,7 @@ impl Node {
         ensures put { length self.old.pending.items ≡ length self.new.pending.items + result }
         ensures sent { length (sent self.new.outlet) ≡ length (sent self.old.outlet) + result }
         ensures stuck { result ≡ 0 → 0 < spare self.old.outlet → self.old.pending.items ≡ [] }
+        ensures places { result ≡ 0 → spare self.old.outlet ≤ spare self.new.outlet }
         ensures going { self.new.failed ≡ self.old.failed }
         ensures operator { self.new.operator ≡ self.old.operator }
         ensures ports { self.new.ports ≡ self.old.ports }
@@ -182,9 +188,20 @@ impl Node {
         self.number
     }
 
-    /// One turn, which begins at the gate: the node takes all messages that it knows to wait at its ports, passes over those that fail the
-    /// test, and puts what its operator sends while its outlet has room. Answers how many messages moved, clamped to 64 bits. After
-    /// out of memory each turn answers it.
+    // The number of elements that its operator keeps, clamped to 64 bits.
+    pub(crate) fn held(&self) -> u64
+        ensures { result ≡ min (held_in self.now.operator) (2 ^ 64 - 1) }
+    {
+        match &self.operator {
+            Some(operator) => operator.held(),
+            None => 0,
+        }
+    }
+
+    /// One turn, which begins at the gate: the node takes all messages that it knows to wait at its
+    /// ports, passes over those that fail the test, and puts what its operator sends while its
+    /// outlet has room. Answers how many messages moved, clamped to 64 bits. After out of memory
+    /// each turn answers it.
     pub fn turn<G: Gate>(&mut self, gate: &G) -> Result<u64, Memory>
         requires counted { IsCounted self.old }
         ensures counted { IsCounted self.new }

@@ -1,13 +1,15 @@
 // A plan at work.
-ghost use Rattle.std.specs.Prelude.{◌≡◌, ◌≤◌, ◌<◌, ◌++◌, ◌∷◌, [], ℕ, List, All, length, get_or, true, false, IfOk, IfErr, IfSome, IfNone, OnOk, OnErr, OnSome, IsErr, IsOk};
+ghost use Rattle.std.specs.Prelude.{◌≡◌, ◌≤◌, ◌<◌, ◌++◌, ◌∷◌, [], ℕ, List, All, length, get_or, min, ◌-◌, ◌^◌, true, false, IfOk, IfErr, IfSome, IfNone, OnOk, OnErr, OnSome, IsErr, IsOk};
 ghost use Rattle.std.specs.Bool.{OnTrue};
+ghost use Rattle.std.specs.List.{sum_by};
 ghost use Rattle.pipes_tuple.specs.declared.value.Kind.{Kind};
 ghost use Rattle.pipes_link.specs.declared.TheConstants.{MOST_ROOM};
 ghost use Rattle.pipes_stream.specs.declared.message.Message.{Message as Sent};
 ghost use Rattle.pipes_stream.specs.Lawful.{Lists, no_messages, with_message};
 ghost use Rattle.pipes_plan.specs.declared.plan.Plan.{Plan as Tree};
 ghost use Rattle.pipes_plan.specs.PlanKinds.{IsTyped};
-ghost use Rattle.pipes_box.specs.Shapes.{is_built, shape_of, Answers};
+ghost use Rattle.pipes_box.specs.Nodes.{held_in};
+ghost use Rattle.pipes_box.specs.Shapes.{is_built, shape_of, Answers, FollowsPlan};
 
 use crate::build::{Part, Spot, build_at};
 use crate::leaf::Leaf;
@@ -22,8 +24,8 @@ use pipes_time::Memory;
 use std::alloc::Global;
 use std::thread::Threads;
 
-/// A plan at work: a node for each of its nodes, with links between them. What is given at its leaves comes out at the top as the plan's
-/// answer.
+/// A plan at work: a node for each of its nodes, with links between them. What is given at its
+/// leaves comes out at the top as the plan's answer.
 #[derive(Drop)]
 pub struct PlanBox {
     nodes: Vec<Node>,
@@ -34,7 +36,8 @@ pub struct PlanBox {
 
 // Whether memory was refused to a node.
 fn has_failed(nodes: &[Node]) -> bool
-    ensures { result ≡ false → (k : ℕ) (d : Node) → k < length nodes.now → (get_or nodes.now k d).failed ≡ false }
+    ensures { result ≡ false → (k : ℕ) (d : Node) → k < length nodes.now
+        → (get_or nodes.now k d).failed ≡ false }
 {
     for k in 0..nodes.len() {
         if nodes[k].failed {
@@ -44,19 +47,34 @@ fn has_failed(nodes: &[Node]) -> bool
     false
 }
 
-// How many messages moved in the nodes' last turns.
+// How many messages moved in the nodes' last turns, clamped to 64 bits.
 fn total_moved(nodes: &[Node]) -> u64
-    ensures { result ≡ 0 → (k : ℕ) (d : Node) → k < length nodes.now → (get_or nodes.now k d).moved ≡ 0 }
+    ensures { result ≡ min (sum_by (λ n. n.moved) nodes.now) (2 ^ 64 - 1) }
 {
     let mut moved: u64 = 0;
-    for k in 0..nodes.len() {
-        moved = moved.saturating_add(nodes[k].moved);
+    for node in nodes {
+        moved = moved.saturating_add(node.moved);
     }
     moved
 }
 
+// How many elements the nodes' operators keep, clamped to 64 bits.
+fn total_held(nodes: &[Node]) -> u64
+    ensures { result ≡ min (sum_by (λ n. held_in n.operator) nodes.now) (2 ^ 64 - 1) }
+{
+    let mut held: u64 = 0;
+    for node in nodes {
+        held = held.saturating_add(node.held());
+    }
+    held
+}
+
 impl PlanBox {
-    ghost use Rattle.pipes_box.specs.Boxes.{BoxStands, IsSound, GivesOne, StaysAsBefore, TakesOne};
+    ghost use Rattle.pipes_box.specs.Boxes.{BoxStands, IsSound, IsStill, Moved, all_held, GivesOne, StaysAsBefore, TakesOne};
+    ghost use Rattle.pipes_box.specs.Networks.{Settles};
+    ghost use Rattle.pipes_box.specs.Prompt.{AllEnded, IsPrompt};
+    ghost use Rattle.pipes_box.specs.Rounds.{AllTurned, TopLooks};
+    ghost use Rattle.pipes_link.specs.Ends.{ready};
     ghost use Rattle.pipes_box.specs.declared.leaf.Leaf.{Leaf as Place};
 
     /// A plan at work, whose links have room for so many messages each.
@@ -91,11 +109,25 @@ impl PlanBox {
         })
     }
 
-    /// What has come out at the top is the plan's answer to what was given at the leaves: a law, and nothing to run.
+    /// What has come out at the top is the plan's answer to what was given at the leaves: a law,
+    /// and nothing to run.
     pub fn answers(&self)
         requires { IsSound self.now }
-        ensures { (schemas : List (List Kind)) (plan : Tree) (given : Lists) (got : List Sent) → BoxStands self.now schemas plan given got
+        ensures answer { (schemas : List (List Kind)) (plan : Tree) (given : Lists) (got : List Sent) → BoxStands self.now schemas plan given got
             → Answers (shape_of schemas plan) 0 given got }
+        ensures algebra { (schemas : List (List Kind)) (plan : Tree) (given : Lists) (got : List Sent) → BoxStands self.now schemas plan given got
+            → is_built plan ≡ true → FollowsPlan schemas plan given got }
+    {}
+
+    /// A box in which nothing is on its way has answered as far as the leaves' heartbeats allow,
+    /// and after the end of each leaf it has ended and keeps no element: a law, and nothing to run.
+    pub fn keeps_up(&self)
+        requires sound { IsSound self.now }
+        requires still { IsStill self.now }
+        ensures prompt { (schemas : List (List Kind)) (plan : Tree) (given : Lists) (got : List Sent) → BoxStands self.now schemas plan given got
+            → IsPrompt (shape_of schemas plan) 0 given got }
+        ensures keeps_none { (schemas : List (List Kind)) (plan : Tree) (given : Lists) (got : List Sent) → BoxStands self.now schemas plan given got
+            → AllEnded (shape_of schemas plan) 0 given → all_held self.now ≡ 0 }
     {}
 
     // Settles the link of each node's port.
@@ -104,6 +136,8 @@ impl PlanBox {
         ensures sound { IsSound self.new }
         ensures stands { StaysAsBefore self.old self.new }
         ensures going { self.new.failed ≡ self.old.failed }
+        ensures links { Settles self.old.nodes.items self.new.nodes.items (length self.old.nodes.items) 0 }
+        ensures top { self.new.top ≡ self.old.top }
     {
         settle_all(self.nodes.as_mut_slice());
     }
@@ -114,6 +148,9 @@ impl PlanBox {
         requires some { 1 ≤ workers }
         ensures sound { IsSound self.new }
         ensures stands { self.new.failed ≡ false → StaysAsBefore self.old self.new }
+        ensures turned { self.new.failed ≡ false
+            → AllTurned self.old.nodes.items self.new.nodes.items }
+        ensures top { self.new.top ≡ self.old.top }
     {
         turn_all(rt, self.nodes.as_mut_slice(), workers, gate);
         self.failed = has_failed(self.nodes.as_slice());
@@ -125,14 +162,17 @@ impl PlanBox {
         ensures sound { IsSound self.new }
         ensures stands { StaysAsBefore self.old self.new }
         ensures going { self.new.failed ≡ self.old.failed }
+        ensures looks { TopLooks self.old self.new }
     {
         let root = self.nodes.as_slice().len() - 1;
         settle(&mut self.nodes[root].outlet, &mut self.top);
     }
 
-    /// A round: each link is settled, and each node has one turn, shared out among at most so many threads. With one worker no thread
-    /// is started. What came to the top can be taken then. Answers how many messages moved, clamped to 64 bits. After out of memory
-    /// each round answers it.
+    /// A round: each link is settled, and each node has one turn, shared out among at most so many
+    /// threads. With one worker no thread is started. What came to the top can be taken then.
+    /// Answers how many messages moved, clamped to 64 bits. After an answer of 0 either messages
+    /// wait at the top, or nothing is on its way in the box. After out of memory each round answers
+    /// it.
     pub fn round<R: Threads + Sync, G: Gate>(
         &mut self,
         rt: &R,
@@ -144,19 +184,24 @@ impl PlanBox {
         requires most { workers ≤ 16 }
         ensures sound { IsSound self.new }
         ensures stands { OnOk result (StaysAsBefore self.old self.new) }
+        ensures moved { IfOk result (λ moved. Moved self.old.nodes.items self.new.nodes.items moved) }
+        ensures still { IfOk result (λ moved. moved ≡ 0 → ready self.new.top ≡ 0
+            → IsStill self.new) }
         ensures memory { OnErr result (self.new.failed ≡ true) }
         ensures stays_failed { OnTrue self.old.failed (IsErr result) }
     {
         if self.failed {
             return Err(Memory);
         }
+        self.settle_top();
         self.settle_links();
         self.turn_nodes(rt, workers, gate);
         if self.failed {
             return Err(Memory);
         }
+        let moved = total_moved(self.nodes.as_slice());
         self.settle_top();
-        Ok(total_moved(self.nodes.as_slice()))
+        Ok(moved)
     }
 
     /// Takes the next message from the top, of those that the last round brought there.
@@ -164,13 +209,14 @@ impl PlanBox {
         requires { IsSound self.old }
         ensures sound { IsSound self.new }
         ensures took { IfSome result (λ message. TakesOne self.old self.new message) }
-        ensures none { IfNone result (self.new ≡ self.old) }
+        ensures none { IfNone result ((self.new ≡ self.old) × (ready self.old.top ≡ 0)) }
         ensures going { self.new.failed ≡ self.old.failed }
     {
         self.top.take_known()
     }
 
-    /// Gives a message at a leaf, unless its link has no free place: then the message comes back. Leaves are numbered in preorder, from 0.
+    /// Gives a message at a leaf, unless its link has no free place: then the message comes back.
+    /// Leaves are numbered in preorder, from 0.
     pub fn give(&mut self, leaf: u32, message: Message) -> Result<(), Full<Message>>
         requires sound { IsSound self.old }
         requires in_range { leaf < length self.old.leaves.items }
@@ -185,6 +231,20 @@ impl PlanBox {
             Ok(()) => Ok(()),
             Err(full) => Err(full),
         }
+    }
+
+    /// How many elements from its leaves its operators keep, clamped to 64 bits.
+    pub fn held(&self) -> u64
+        ensures { result ≡ min (all_held self.now) (2 ^ 64 - 1) }
+    {
+        total_held(self.nodes.as_slice())
+    }
+
+    /// The number of leaves, clamped to 32 bits.
+    pub fn leaf_count(&self) -> u32
+        ensures { result ≡ min (length self.now.leaves.items) (2 ^ 32 - 1) }
+    {
+        self.leaves.len().min(u32::MAX as usize) as u32
     }
 
     /// The number of the source of a leaf.

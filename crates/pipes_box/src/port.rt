@@ -10,7 +10,8 @@ use pipes_link::Inlet;
 use pipes_stream::{Message, Watch};
 use pipes_tuple::Schema;
 
-/// The end of a link that a node takes from, with the test of its messages: a message from another thread is known by its type alone.
+/// The end of a link that a node takes from, with the test of its messages: a message from another
+/// thread is known by its type alone.
 #[derive(Drop)]
 pub struct Port {
     pub(crate) inlet: Inlet<Message>,

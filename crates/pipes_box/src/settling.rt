@@ -23,7 +23,8 @@ fn settle_port(nodes: &mut [Node], parent: usize, port: usize)
 fn settle_ports(nodes: &mut [Node], parent: usize)
     requires in_range { parent < length nodes.old }
     requires linked { IsLinked nodes.old }
-    ensures settles { (first : List Node) → Settles first nodes.old parent 0 → Settles first nodes.new (parent + 1) 0 }
+    ensures settles { (first : List Node) → Settles first nodes.old parent 0
+        → Settles first nodes.new (parent + 1) 0 }
     ensures count { length nodes.new ≡ length nodes.old }
     ensures linked { IsLinked nodes.new }
 {

@@ -19,14 +19,16 @@ fn turn_one<G: Gate>(node: &mut Node, gate: &G)
 fn turn_here<G: Gate>(nodes: &mut [Node], gate: &G)
     requires { All IsCounted nodes.old }
     ensures count { length nodes.new ≡ length nodes.old }
-    ensures turned { (k : ℕ) (d : Node) → k < length nodes.old → NodeTurned (get_or nodes.old k d) (get_or nodes.new k d) }
+    ensures turned { (k : ℕ) (d : Node) → k < length nodes.old
+        → NodeTurned (get_or nodes.old k d) (get_or nodes.new k d) }
 {
     for k in 0..nodes.len() {
         turn_one(&mut nodes[k], gate);
     }
 }
 
-// One turn of each node: on this thread where there is one worker, and otherwise shared out among at most so many threads.
+// One turn of each node: on this thread where there is one worker, and otherwise shared out among
+// at most so many threads.
 pub(crate) fn turn_all<R: Threads + Sync, G: Gate>(
     rt: &R,
     nodes: &mut [Node],
@@ -36,7 +38,8 @@ pub(crate) fn turn_all<R: Threads + Sync, G: Gate>(
     requires some { 1 ≤ workers }
     requires counted { All IsCounted nodes.old }
     ensures count { length nodes.new ≡ length nodes.old }
-    ensures turned { (k : ℕ) (d : Node) → k < length nodes.old → NodeTurned (get_or nodes.old k d) (get_or nodes.new k d) }
+    ensures turned { (k : ℕ) (d : Node) → k < length nodes.old
+        → NodeTurned (get_or nodes.old k d) (get_or nodes.new k d) }
 {
     if workers == 1 {
         turn_here(nodes, gate);

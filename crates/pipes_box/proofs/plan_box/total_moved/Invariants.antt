@@ -1,6 +1,6 @@
-use Rattle.std.proofs.Common.{◌≡◌, ◌<◌, ℕ, get_or}
-use Rattle.pipes_box.specs.declared.node.Node.{Node}
+use Rattle.std.proofs.Common.{◌≡◌, ◌-◌, ◌^◌, ℕ, min, take}
+use Rattle.std.specs.List.{sum_by}
 use Rattle.pipes_box.proofs.plan_box.total_moved.Given as goal
 
-abbrev pub invariant-loop-k : goal.invariant-loop-k
-invariant-loop-k l = l.moved ≡ 0 → (j : ℕ) (d : Node) → j < l.k → (get_or l.nodes j d).moved ≡ 0
+abbrev pub invariant-loop-node : goal.invariant-loop-node
+invariant-loop-node l = l.moved ≡ min (sum_by (λ n. n.moved) (take l.node-index l.nodes)) (2 ^ 64 - 1)
