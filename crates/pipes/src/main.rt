@@ -3,7 +3,7 @@
 #![tactic(auto)]
 
 use pipes_edge::{HostFiles, HostSink, NoGate};
-use pipes_fault::{Fault, say, status};
+use pipes_error::{Fault, say, status};
 use pipes_run::pipes;
 use pipes_time::Memory;
 use std::env;

@@ -1,5 +1,7 @@
 -- Nodes that are added to those of the parts below them.
-use Rattle.std.proofs.Common.{◌≡◌, ℕ, zero, suc, ◌+◌, ◌≤◌, ◌<◌, List, [], ◌∷◌, ◌++◌, length, get_or, Option, Some, None, refl, sym, ◌∙◌, ap, subst, arith, append_assoc, append-nil, length-append, inl, inr}
+use Rattle.std.proofs.Common.{◌≡◌, ℕ, zero, suc, ◌+◌, ◌≤◌, ◌<◌, List, [], ◌∷◌, ◌++◌, length, get_or}
+use Rattle.std.proofs.Common.{Option, Some, None, refl, sym, ◌∙◌, ap, subst, arith, append_assoc}
+use Rattle.std.proofs.Common.{append-nil, length-append, inl, inr}
 use Rattle.std.proofs.lemmas.Bool.{cases_lt}
 use Rattle.pipes_tuple.specs.declared.value.Kind.{Kind}
 use Rattle.pipes_stream.specs.declared.message.Message.{Message}
@@ -15,15 +17,18 @@ use Rattle.pipes_box.specs.declared.node.Node.{Node}
 use Rattle.pipes_box.specs.declared.build.Part.{Part}
 use Rattle.pipes_box.specs.Operators.{task_of, StandsFor}
 use Rattle.pipes_box.specs.Passing.{Passes}
-use Rattle.pipes_box.specs.Nodes.{IsCounted, PortStands, Emits, EmitsIn, NodeStands, task_in, ports_of, kinds_at}
-use Rattle.pipes_box.specs.Shapes.{Shape, Leaf, One, Two, gives_of, node_count, leaf_count, KeepsBags, IsProper}
+use Rattle.pipes_box.specs.Nodes.{IsCounted, PortStands, Emits, EmitsIn, NodeStands, task_in}
+use Rattle.pipes_box.specs.Nodes.{ports_of, kinds_at}
+use Rattle.pipes_box.specs.Shapes.{Shape, Leaf, One, Two, gives_of, node_count, leaf_count}
+use Rattle.pipes_box.specs.Shapes.{KeepsBags, IsProper}
 use Rattle.pipes_box.specs.Networks.{LinkHolds, IsLinked, IsWired, ChildAt, root_of}
 use Rattle.pipes_box.specs.Parts.{IsPortOf, Adds, AddsOver, AddsTask, PortsOver, IsNew, PartHolds}
 use Rattle.pipes_box.proofs.Saying.{says-self}
 use Rattle.pipes_box.proofs.NodeSteps.{place}
 
 module _ {X : Type 0} where
-  pub get-before : (xs ys : List X) (k : ℕ) (d : X) → k < length xs → get_or (xs ++ ys) k d ≡ get_or xs k d
+  pub get-before : (xs ys : List X) (k : ℕ) (d : X) → k < length xs
+      → get_or (xs ++ ys) k d ≡ get_or xs k d
   get-before [] ys k d h = absurd (omega arith)
   get-before (x ∷ xs) ys zero d h = refl
   get-before (x ∷ xs) ys (suc k) d h = get-before xs ys k d (omega arith)
@@ -43,31 +48,41 @@ root-in (One task a) i = omega arith
 root-in (Two task a b) i = omega arith
 
 -- nodes that are the same at these places
-pub wired-same : (node node' : ℕ → Node) (s : Shape) (i : ℕ) → ((k : ℕ) → i ≤ k → k < i + node_count s → node' k ≡ node k) → IsWired node s i → IsWired node' s i
-wired-same node node' (Leaf source kinds) i same w = ap (λ (n : Node). task_in n.operator) (same i (omega arith) (omega arith)) ∙ w
+pub wired-same : (node node' : ℕ → Node) (s : Shape) (i : ℕ)
+    → ((k : ℕ) → i ≤ k → k < i + node_count s → node' k ≡ node k) → IsWired node s i
+    → IsWired node' s i
+wired-same node node' (Leaf source kinds) i same w = ap (λ (n : Node). task_in n.operator)
+    (same i (omega arith) (omega arith)) ∙ w
 wired-same node node' (One task a) i same w =
-    let at-root = same (i + node_count a) (omega arith) (omega arith) in
-    (wired-same node node' a i (λ k l h. same k l (omega (arith, h))) w.0, ap (λ (n : Node). task_in n.operator) at-root ∙ w.1, subst (λ (n : Node). ChildAt n 0 (root_of a i)) (sym at-root) w.2)
+    let at-root = same (i + node_count a) (omega arith) (omega arith) in (
+      wired-same node node' a i (λ k l h. same k l (omega (arith, h))) w.0,
+      ap (λ (n : Node). task_in n.operator) at-root ∙ w.1,
+      subst (λ (n : Node). ChildAt n 0 (root_of a i)) (sym at-root) w.2,
+    )
 wired-same node node' (Two task a b) i same w =
     let at-root = same (i + (node_count a + node_count b)) (omega arith) (omega arith) in (
       wired-same node node' a i (λ k l h. same k l (omega (arith, h))) w.0,
-      wired-same node node' b (i + node_count a) (λ k l h. same k (omega (arith, l)) (omega (arith, h))) w.1,
+      wired-same node node' b (i + node_count a) (λ k l h. same k (omega (arith, l))
+          (omega (arith, h))) w.1,
       ap (λ (n : Node). task_in n.operator) at-root ∙ w.2,
       subst (λ (n : Node). ChildAt n 0 (root_of a i)) (sym at-root) w.3,
       subst (λ (n : Node). ChildAt n 1 (root_of b (i + node_count a))) (sym at-root) w.4,
     )
 
 -- a part stays as it is where nodes are added
-pub holds-more : (nodes more : List Node) (start : ℕ) (s : Shape) (part : Part) → PartHolds nodes start s part → PartHolds (nodes ++ more) start s part
+pub holds-more : (nodes more : List Node) (start : ℕ) (s : Shape) (part : Part)
+    → PartHolds nodes start s part → PartHolds (nodes ++ more) start s part
 holds-more nodes more start s part h =
     let root-there : part.root < length nodes = omega (arith, h.root, h.there, root-in s start) in
     record {
       there = omega (arith, h.there, length-append nodes more);
       root = h.root;
-      wired = λ d. wired-same (λ k. get_or nodes k d) (λ k. get_or (nodes ++ more) k d) s start (λ k l m. get-before nodes more k d (omega (arith, m, h.there))) (h.wired d);
+      wired = λ d. wired-same (λ k. get_or nodes k d) (λ k. get_or (nodes ++ more) k d) s start
+          (λ k l m. get-before nodes more k d (omega (arith, m, h.there))) (h.wired d);
       proper = h.proper;
       gives = h.gives;
-      ends = λ d. subst (λ (n : Node). AreEnds n.outlet part.inlet) (sym (get-before nodes more part.root d root-there)) (h.ends d);
+      ends = λ d. subst (λ (n : Node). AreEnds n.outlet part.inlet)
+          (sym (get-before nodes more part.root d root-there)) (h.ends d);
       nothing_taken = h.nothing_taken;
       nothing_known = h.nothing_known;
     }
@@ -81,10 +96,13 @@ pub record PortReady (nodes : List Node) (kinds : List Kind) (p : Port) : Type 0
   pub watch : p.watch ≡ start_of_list
   pub schema : p.schema ≡ kinds
 
-pub port-ready : (nodes : List Node) (start : ℕ) (s : Shape) (part : Part) (p : Port) → PartHolds nodes start s part → IsPortOf part p → PortReady nodes part.schema p
+pub port-ready : (nodes : List Node) (start : ℕ) (s : Shape) (part : Part) (p : Port)
+    → PartHolds nodes start s part → IsPortOf part p → PortReady nodes part.schema p
 port-ready nodes start s part p h is = record {
   there = omega (arith, h.root, h.there, root-in s start, is.child);
-  ends = λ d. subst (λ (i : Inlet Message). AreEnds (get_or nodes p.child d).outlet i) (sym is.inlet) (subst (λ (k : ℕ). AreEnds (get_or nodes k d).outlet part.inlet) (sym is.child) (h.ends d));
+  ends = λ d. subst (λ (i : Inlet Message). AreEnds (get_or nodes p.child d).outlet i)
+      (sym is.inlet) (subst (λ (k : ℕ). AreEnds (get_or nodes k d).outlet part.inlet) (sym is.child)
+      (h.ends d));
   nothing_taken = ap (λ (i : Inlet Message). taken i) is.inlet ∙ h.nothing_taken;
   nothing_known = ap (λ (i : Inlet Message). length (known i)) is.inlet ∙ h.nothing_known;
   watch = is.watch;
@@ -94,7 +112,8 @@ port-ready nodes start s part p h is = record {
 -- a node that is ready over the nodes
 pub record NodeReady (nodes : List Node) (n : Node) : Type 0 where
   pub counted : IsCounted n
-  pub ports : (i : ℕ) (e : Port) → i < length n.ports.items → PortReady nodes (kinds_at (task_in n.operator) i) (get_or n.ports.items i e)
+  pub ports : (i : ℕ) (e : Port) → i < length n.ports.items → PortReady nodes
+      (kinds_at (task_in n.operator) i) (get_or n.ports.items i e)
   pub emits : EmitsIn n.operator no_messages [] []
   pub nothing_sent : sent n.outlet ≡ []
   pub nothing_pending : n.pending.items ≡ []
@@ -104,54 +123,86 @@ ready-stands nodes n r = record {
   passed = no_messages;
   ports = λ k d h.
       let p = r.ports k d h in
-      record { passes = subst (λ (xs : List Message). Passes (get_or n.ports.items k d).schema start_of_list xs []) (sym p.nothing_taken) refl; watch = p.watch };
+      record {
+        passes = subst (λ (xs : List Message). Passes (get_or n.ports.items k d).schema
+            start_of_list xs []) (sym p.nothing_taken) refl;
+        watch = p.watch;
+      };
   kinds = λ k d h. sym (r.ports k d h).schema;
-  emits = subst (λ (xs : List Message). EmitsIn n.operator no_messages xs n.pending.items) (sym r.nothing_sent) (subst (EmitsIn n.operator no_messages []) (sym r.nothing_pending) r.emits);
+  emits = subst (λ (xs : List Message). EmitsIn n.operator no_messages xs n.pending.items)
+      (sym r.nothing_sent) (subst (EmitsIn n.operator no_messages []) (sym r.nothing_pending)
+      r.emits);
 }
 
 -- by the place: the node that was added, or one before it
-at-push : (nodes : List Node) (n d : Node) (P : ℕ → Node → Type 0) → ((k : ℕ) → k < length nodes → P k (get_or nodes k d)) → P (length nodes) n → (k : ℕ) → k < length (nodes ++ n ∷ []) → P k (get_or (nodes ++ n ∷ []) k d)
+at-push : (nodes : List Node) (n d : Node) (P : ℕ → Node → Type 0)
+    → ((k : ℕ) → k < length nodes → P k (get_or nodes k d)) → P (length nodes) n → (k : ℕ)
+    → k < length (nodes ++ n ∷ []) → P k (get_or (nodes ++ n ∷ []) k d)
 at-push nodes n d P old last k h =
     elim (cases_lt k (length nodes)) [
       | inl l ↦ subst (P k) (sym (get-before nodes (n ∷ []) k d l)) (old k l)
       | inr l ↦
           let e : length nodes ≡ k = omega (arith, l, h, length-append nodes (n ∷ [])) in
-          subst (λ (z : ℕ). P z (get_or (nodes ++ n ∷ []) z d)) e (subst (P (length nodes)) (sym (get-last nodes n d)) last)
+          subst (λ (z : ℕ). P z (get_or (nodes ++ n ∷ []) z d)) e
+          (subst (P (length nodes)) (sym (get-last nodes n d)) last)
     ]
 
-pub new-push : (nodes : List Node) (n : Node) → NodeReady nodes n → IsNew nodes → IsNew (nodes ++ n ∷ [])
+pub new-push : (nodes : List Node) (n : Node) → NodeReady nodes n → IsNew nodes
+    → IsNew (nodes ++ n ∷ [])
 new-push nodes n r s =
     let all : List Node = nodes ++ n ∷ [] in
     record {
       linked = record {
-        counted = λ k d h. at-push nodes n d (λ j x. IsCounted x) (λ j l. s.linked.counted j d l) r.counted k h;
+        counted = λ k d h. at-push nodes n d (λ j x. IsCounted x) (λ j l. s.linked.counted j d l)
+            r.counted k h;
         earlier = λ k d i e h l.
-            at-push nodes n d (λ j x. i < length x.ports.items → (get_or x.ports.items i e).child < j) (λ j m. s.linked.earlier j d i e m) (λ m. (r.ports i e m).there) k h l;
+            at-push nodes n d (λ j x. i < length x.ports.items
+            → (get_or x.ports.items i e).child < j) (λ j m. s.linked.earlier j d i e m)
+            (λ m. (r.ports i e m).there) k h l;
         links = λ k d i e h l.
-            at-push nodes n d (λ j x. i < length x.ports.items → LinkHolds (get_or all (get_or x.ports.items i e).child d).outlet (get_or x.ports.items i e))
-            (λ j m q. subst (λ (y : Node). LinkHolds y.outlet (get_or (get_or nodes j d).ports.items i e)) (sym (get-before nodes (n ∷ []) (get_or (get_or nodes j d).ports.items i e).child d (omega (arith, s.linked.earlier j d i e m q, m)))) (s.linked.links j d i e m q))
+            at-push nodes n d (λ j x. i < length x.ports.items
+            → LinkHolds (get_or all (get_or x.ports.items i e).child d).outlet
+            (get_or x.ports.items i e))
+            (λ j m q. subst (λ (y : Node). LinkHolds y.outlet
+            (get_or (get_or nodes j d).ports.items i e))
+            (sym (get-before nodes (n ∷ []) (get_or (get_or nodes j d).ports.items i e).child d
+            (omega (arith, s.linked.earlier j d i e m q, m)))) (s.linked.links j d i e m q))
             (λ q.
             let p : Port = get_or n.ports.items i e in
             let ready = r.ports i e q in
             let same = get-before nodes (n ∷ []) p.child d ready.there in
             subst (λ (y : Node). LinkHolds y.outlet p) (sym same)
-            (record { ends = ready.ends d; rest = []; in_order = s.nothing_sent p.child d ready.there ∙ sym (append-nil (taken p.inlet ++ known p.inlet) ∙ ap (λ (xs : List Message). xs ++ known p.inlet) ready.nothing_taken ∙ no-length (known p.inlet) ready.nothing_known) }))
+            (record {
+              ends = ready.ends d;
+              rest = [];
+              in_order =
+                  s.nothing_sent p.child d ready.there
+                  ∙ sym (append-nil (taken p.inlet ++ known p.inlet)
+                  ∙ ap (λ (xs : List Message). xs ++ known p.inlet) ready.nothing_taken
+                  ∙ no-length (known p.inlet) ready.nothing_known);
+            }))
             k h l;
       };
-      stands = λ k d h. at-push nodes n d (λ j x. NodeStands x) (λ j l. s.stands j d l) (ready-stands nodes n r) k h;
-      nothing_sent = λ k d h. at-push nodes n d (λ j x. sent x.outlet ≡ []) (λ j l. s.nothing_sent j d l) r.nothing_sent k h;
+      stands = λ k d h. at-push nodes n d (λ j x. NodeStands x) (λ j l. s.stands j d l)
+          (ready-stands nodes n r) k h;
+      nothing_sent = λ k d h. at-push nodes n d (λ j x. sent x.outlet ≡ [])
+          (λ j l. s.nothing_sent j d l) r.nothing_sent k h;
     }
 
-new-emits : (o : Option PlanOperator) (op : PlanOperator) → o ≡ Some op → StandsFor op no_messages [] → EmitsIn o no_messages [] []
-new-emits o op e s = subst (λ (x : Option PlanOperator). EmitsIn x no_messages [] []) (sym e) (record { was = []; stands = s; says = says-self start_of_list [] tt })
+new-emits : (o : Option PlanOperator) (op : PlanOperator) → o ≡ Some op
+    → StandsFor op no_messages [] → EmitsIn o no_messages [] []
+new-emits o op e s = subst (λ (x : Option PlanOperator). EmitsIn x no_messages [] []) (sym e)
+    (record { was = []; stands = s; says = says-self start_of_list [] tt })
 
 -- the ports of a node over one part, and over two
-one-port : (part : Part) (ports : List Port) → PortsOver (part ∷ []) ports → (p : Port) × (ports ≡ p ∷ []) × IsPortOf part p
+one-port : (part : Part) (ports : List Port) → PortsOver (part ∷ []) ports → (p : Port)
+    × (ports ≡ p ∷ []) × IsPortOf part p
 one-port part [] o = absurd o
 one-port part (p ∷ []) o = (p, refl, o.0)
 one-port part (p ∷ q ∷ ps) o = absurd o.1
 
-two-ports : (left right : Part) (ports : List Port) → PortsOver (left ∷ right ∷ []) ports → (p : Port) × (q : Port) × (ports ≡ p ∷ q ∷ []) × IsPortOf left p × IsPortOf right q
+two-ports : (left right : Part) (ports : List Port) → PortsOver (left ∷ right ∷ []) ports
+    → (p : Port) × (q : Port) × (ports ≡ p ∷ q ∷ []) × IsPortOf left p × IsPortOf right q
 two-ports left right [] o = absurd o
 two-ports left right (p ∷ []) o = absurd o.1
 two-ports left right (p ∷ q ∷ []) o = (p, q, refl, o.0, o.1.0)
@@ -161,7 +212,9 @@ abbrev some-task : Task → Option Task
 some-task x = Some x
 
 -- a node over one part
-module _ (mid new : List Node) (start : ℕ) (s : Shape) (part whole : Part) (task : Task) (h : PartHolds mid start s part) (len : length mid ≡ start + node_count s) (t : AddsTask mid new task (part ∷ []) whole)
+module _ (mid new : List Node) (start : ℕ) (s : Shape) (part whole : Part) (task : Task)
+    (h : PartHolds mid start s part) (len : length mid ≡ start + node_count s)
+    (t : AddsTask mid new task (part ∷ []) whole)
     (keeps : KeepsBags task) (one : task.ports ≡ 1) (takes : task.takes 0 ≡ part.schema) where
   abbrev added-one : Node
   added-one = t.adds.adds.node
@@ -175,7 +228,8 @@ module _ (mid new : List Node) (start : ℕ) (s : Shape) (part whole : Part) (ta
       let p = one-port part t.adds.ports t.adds.over in
       let ports : n.ports.items ≡ p.0 ∷ [] = t.adds.adds.ports_are ∙ p.1 in
       let more = holds-more mid (n ∷ []) start s part h in
-      let at-root : (d : Node) → get_or (mid ++ n ∷ []) (start + node_count s) d ≡ n = λ d. ap (λ (k : ℕ). get_or (mid ++ n ∷ []) k d) (sym len) ∙ get-last mid n d in
+      let at-root : (d : Node) → get_or (mid ++ n ∷ []) (start + node_count s) d ≡ n =
+      λ d. ap (λ (k : ℕ). get_or (mid ++ n ∷ []) k d) (sym len) ∙ get-last mid n d in
       subst (λ (ns : List Node). PartHolds ns start (One task s) whole) (sym t.adds.adds.added)
       (record {
         there = omega (arith, len, length-append mid (n ∷ []));
@@ -183,11 +237,15 @@ module _ (mid new : List Node) (start : ℕ) (s : Shape) (part whole : Part) (ta
         wired = λ d. (
           more.wired d,
           ap (λ (x : Node). task_in x.operator) (at-root d) ∙ one-task,
-          subst (λ (x : Node). ChildAt x 0 (root_of s start)) (sym (at-root d)) (λ e. ap (λ (ps : List Port). (get_or ps 0 e).child) ports ∙ p.2.child ∙ h.root),
+          subst (λ (x : Node). ChildAt x 0 (root_of s start)) (sym (at-root d))
+              (λ e. ap (λ (ps : List Port). (get_or ps 0 e).child) ports ∙ p.2.child ∙ h.root),
         );
         proper = (keeps, one, takes ∙ sym h.gives, h.proper);
         gives = gives;
-        ends = λ d. subst (λ (k : ℕ). AreEnds (get_or (mid ++ n ∷ []) k d).outlet whole.inlet) (sym t.root) (subst (λ (x : Node). AreEnds x.outlet whole.inlet) (sym (get-last mid n d)) t.adds.adds.ends);
+        ends = λ d. subst (λ (k : ℕ). AreEnds (get_or (mid ++ n ∷ []) k d).outlet whole.inlet)
+            (sym t.root) (subst (λ (x : Node). AreEnds x.outlet whole.inlet)
+            (sym (get-last mid n d))
+            t.adds.adds.ends);
         nothing_taken = t.adds.adds.nothing_taken;
         nothing_known = t.adds.adds.nothing_known;
       })
@@ -199,23 +257,37 @@ module _ (mid new : List Node) (start : ℕ) (s : Shape) (part whole : Part) (ta
       let ports : n.ports.items ≡ p.0 ∷ [] = t.adds.adds.ports_are ∙ p.1 in
       let count : length n.ports.items ≡ 1 = ap length ports in
       let ready : PortReady mid (kinds_at (task_in n.operator) 0) p.0 =
-      subst (λ (ks : List Kind). PortReady mid ks p.0) (sym (ap (λ (o : Option Task). kinds_at o 0) one-task ∙ takes)) (port-ready mid start s part p.0 h p.2) in
+      subst (λ (ks : List Kind). PortReady mid ks p.0)
+      (sym (ap (λ (o : Option Task). kinds_at o 0) one-task ∙ takes))
+      (port-ready mid start s part p.0 h p.2) in
       subst IsNew (sym t.adds.adds.added)
       (new-push mid n
       (record {
-        counted = record { count = ap ports_of one-task ∙ one ∙ sym count; few = omega (arith, count) };
-        ports = λ i e l. by-place n i e (omega (arith, l, count)) (subst (λ (ps : List Port). PortReady mid (kinds_at (task_in n.operator) 0) (get_or ps 0 e)) (sym ports) ready);
+        counted = record {
+          count = ap ports_of one-task ∙ one ∙ sym count;
+          few =
+              omega (arith, count);
+        };
+        ports = λ i e l. by-place n i e (omega (arith, l, count))
+            (subst (λ (ps : List Port). PortReady mid (kinds_at (task_in n.operator) 0)
+            (get_or ps 0 e)) (sym ports) ready);
         emits = new-emits n.operator t.operator t.adds.adds.operator_is t.stands;
         nothing_sent = t.adds.adds.nothing_sent;
         nothing_pending = t.adds.adds.nothing_pending;
       }) s-new) where
-        by-place : (n : Node) (i : ℕ) (e : Port) → i < 1 → PortReady mid (kinds_at (task_in n.operator) 0) (get_or n.ports.items 0 e) → PortReady mid (kinds_at (task_in n.operator) i) (get_or n.ports.items i e)
+        by-place : (n : Node) (i : ℕ) (e : Port) → i < 1 → PortReady mid
+            (kinds_at (task_in n.operator) 0) (get_or n.ports.items 0 e)
+            → PortReady mid (kinds_at (task_in n.operator) i) (get_or n.ports.items i e)
         by-place n zero e l r = r
         by-place n (suc i) e l r = absurd (omega (arith, l))
 
 -- a node over two parts
-module _ (mid new : List Node) (start : ℕ) (a b : Shape) (left right whole : Part) (task : Task) (h : PartHolds mid start a left) (k : PartHolds mid (start + node_count a) b right)
-    (len : length mid ≡ start + node_count a + node_count b) (t : AddsTask mid new task (left ∷ right ∷ []) whole) (keeps : KeepsBags task) (two : task.ports ≡ 2) (takes : task.takes 0 ≡ left.schema) (takes' : task.takes 1 ≡ right.schema) where
+module _ (mid new : List Node) (start : ℕ) (a b : Shape) (left right whole : Part) (task : Task)
+    (h : PartHolds mid start a left) (k : PartHolds mid (start + node_count a) b right)
+    (len : length mid ≡ start + node_count a + node_count b)
+    (t : AddsTask mid new task (left ∷ right ∷ []) whole) (keeps : KeepsBags task)
+    (two : task.ports ≡ 2) (takes : task.takes 0 ≡ left.schema)
+    (takes' : task.takes 1 ≡ right.schema) where
   abbrev added-two : Node
   added-two = t.adds.adds.node
 
@@ -230,7 +302,8 @@ module _ (mid new : List Node) (start : ℕ) (a b : Shape) (left right whole : P
       let more = holds-more mid (n ∷ []) start a left h in
       let more' = holds-more mid (n ∷ []) (start + node_count a) b right k in
       let place-is : start + (node_count a + node_count b) ≡ length mid = omega (arith, len) in
-      let at-root : (d : Node) → get_or (mid ++ n ∷ []) (start + (node_count a + node_count b)) d ≡ n = λ d. ap (λ (j : ℕ). get_or (mid ++ n ∷ []) j d) place-is ∙ get-last mid n d in
+      let at-root : (d : Node) → get_or (mid ++ n ∷ []) (start + (node_count a + node_count b))
+      d ≡ n = λ d. ap (λ (j : ℕ). get_or (mid ++ n ∷ []) j d) place-is ∙ get-last mid n d in
       subst (λ (ns : List Node). PartHolds ns start (Two task a b) whole) (sym t.adds.adds.added)
       (record {
         there = omega (arith, len, length-append mid (n ∷ []));
@@ -239,12 +312,17 @@ module _ (mid new : List Node) (start : ℕ) (a b : Shape) (left right whole : P
           more.wired d,
           more'.wired d,
           ap (λ (x : Node). task_in x.operator) (at-root d) ∙ two-task,
-          subst (λ (x : Node). ChildAt x 0 (root_of a start)) (sym (at-root d)) (λ e. ap (λ (ps : List Port). (get_or ps 0 e).child) ports ∙ p.3.child ∙ h.root),
-          subst (λ (x : Node). ChildAt x 1 (root_of b (start + node_count a))) (sym (at-root d)) (λ e. ap (λ (ps : List Port). (get_or ps 1 e).child) ports ∙ p.4.child ∙ k.root),
+          subst (λ (x : Node). ChildAt x 0 (root_of a start)) (sym (at-root d))
+              (λ e. ap (λ (ps : List Port). (get_or ps 0 e).child) ports ∙ p.3.child ∙ h.root),
+          subst (λ (x : Node). ChildAt x 1 (root_of b (start + node_count a))) (sym (at-root d))
+              (λ e. ap (λ (ps : List Port). (get_or ps 1 e).child) ports ∙ p.4.child ∙ k.root),
         );
         proper = (keeps, two, takes ∙ sym h.gives, takes' ∙ sym k.gives, h.proper, k.proper);
         gives = gives;
-        ends = λ d. subst (λ (j : ℕ). AreEnds (get_or (mid ++ n ∷ []) j d).outlet whole.inlet) (sym t.root) (subst (λ (x : Node). AreEnds x.outlet whole.inlet) (sym (get-last mid n d)) t.adds.adds.ends);
+        ends = λ d. subst (λ (j : ℕ). AreEnds (get_or (mid ++ n ∷ []) j d).outlet whole.inlet)
+            (sym t.root) (subst (λ (x : Node). AreEnds x.outlet whole.inlet)
+            (sym (get-last mid n d))
+            t.adds.adds.ends);
         nothing_taken = t.adds.adds.nothing_taken;
         nothing_known = t.adds.adds.nothing_known;
       })
@@ -256,37 +334,55 @@ module _ (mid new : List Node) (start : ℕ) (a b : Shape) (left right whole : P
       let ports : n.ports.items ≡ p.0 ∷ p.1 ∷ [] = t.adds.adds.ports_are ∙ p.2 in
       let count : length n.ports.items ≡ 2 = ap length ports in
       let ready : PortReady mid (kinds_at (task_in n.operator) 0) p.0 =
-      subst (λ (ks : List Kind). PortReady mid ks p.0) (sym (ap (λ (o : Option Task). kinds_at o 0) two-task ∙ takes)) (port-ready mid start a left p.0 h p.3) in
+      subst (λ (ks : List Kind). PortReady mid ks p.0)
+      (sym (ap (λ (o : Option Task). kinds_at o 0) two-task ∙ takes))
+      (port-ready mid start a left p.0 h p.3) in
       let ready' : PortReady mid (kinds_at (task_in n.operator) 1) p.1 =
-      subst (λ (ks : List Kind). PortReady mid ks p.1) (sym (ap (λ (o : Option Task). kinds_at o 1) two-task ∙ takes')) (port-ready mid (start + node_count a) b right p.1 k p.4) in
+      subst (λ (ks : List Kind). PortReady mid ks p.1)
+      (sym (ap (λ (o : Option Task). kinds_at o 1) two-task ∙ takes'))
+      (port-ready mid (start + node_count a) b right p.1 k p.4) in
       subst IsNew (sym t.adds.adds.added)
       (new-push mid n
       (record {
-        counted = record { count = ap ports_of two-task ∙ two ∙ sym count; few = omega (arith, count) };
+        counted = record {
+          count = ap ports_of two-task ∙ two ∙ sym count;
+          few =
+              omega (arith, count);
+        };
         ports = λ i e l.
-            by-place n i e (omega (arith, l, count)) (subst (λ (ps : List Port). PortReady mid (kinds_at (task_in n.operator) 0) (get_or ps 0 e)) (sym ports) ready)
-            (subst (λ (ps : List Port). PortReady mid (kinds_at (task_in n.operator) 1) (get_or ps 1 e)) (sym ports) ready');
+            by-place n i e (omega (arith, l, count))
+            (subst (λ (ps : List Port). PortReady mid (kinds_at (task_in n.operator) 0)
+            (get_or ps 0 e)) (sym ports) ready)
+            (subst (λ (ps : List Port). PortReady mid (kinds_at (task_in n.operator) 1)
+            (get_or ps 1 e)) (sym ports) ready');
         emits = new-emits n.operator t.operator t.adds.adds.operator_is t.stands;
         nothing_sent = t.adds.adds.nothing_sent;
         nothing_pending = t.adds.adds.nothing_pending;
       }) s-new) where
-        by-place : (n : Node) (i : ℕ) (e : Port) → i < 2 → PortReady mid (kinds_at (task_in n.operator) 0) (get_or n.ports.items 0 e) → PortReady mid (kinds_at (task_in n.operator) 1) (get_or n.ports.items 1 e) → PortReady mid (kinds_at (task_in n.operator) i) (get_or n.ports.items i e)
+        by-place : (n : Node) (i : ℕ) (e : Port) → i < 2 → PortReady mid
+            (kinds_at (task_in n.operator) 0) (get_or n.ports.items 0 e)
+            → PortReady mid (kinds_at (task_in n.operator) 1) (get_or n.ports.items 1 e)
+            → PortReady mid (kinds_at (task_in n.operator) i) (get_or n.ports.items i e)
         by-place n zero e l r q = r
         by-place n (suc zero) e l r q = q
         by-place n (suc (suc i)) e l r q = absurd (omega (arith, l))
 
 -- a source
-module _ (old new : List Node) (source : ℕ) (kinds : List Kind) (part : Part) (t : Adds old new None [] part.inlet) (root : part.root ≡ length old) where
+module _ (old new : List Node) (source : ℕ) (kinds : List Kind) (part : Part)
+    (t : Adds old new None [] part.inlet) (root : part.root ≡ length old) where
   pub leaf-holds : kinds ≡ part.schema → PartHolds new (length old) (Leaf source kinds) part
   leaf-holds gives =
       subst (λ (ns : List Node). PartHolds ns (length old) (Leaf source kinds) part) (sym t.added)
       (record {
         there = omega (arith, length-append old (t.node ∷ []));
         root = root;
-        wired = λ d. ap (λ (x : Node). task_in x.operator) (get-last old t.node d) ∙ ap task_in t.operator_is;
+        wired = λ d. ap (λ (x : Node). task_in x.operator) (get-last old t.node d)
+            ∙ ap task_in t.operator_is;
         proper = tt;
         gives = gives;
-        ends = λ d. subst (λ (j : ℕ). AreEnds (get_or (old ++ t.node ∷ []) j d).outlet part.inlet) (sym root) (subst (λ (x : Node). AreEnds x.outlet part.inlet) (sym (get-last old t.node d)) t.ends);
+        ends = λ d. subst (λ (j : ℕ). AreEnds (get_or (old ++ t.node ∷ []) j d).outlet part.inlet)
+            (sym root) (subst (λ (x : Node). AreEnds x.outlet part.inlet)
+            (sym (get-last old t.node d)) t.ends);
         nothing_taken = t.nothing_taken;
         nothing_known = t.nothing_known;
       })
@@ -297,9 +393,14 @@ module _ (old new : List Node) (source : ℕ) (kinds : List Kind) (part : Part) 
       subst IsNew (sym t.added)
       (new-push old t.node
       (record {
-        counted = record { count = ap (λ o. ports_of (task_in o)) t.operator_is ∙ sym count; few = omega (arith, count) };
+        counted = record {
+          count = ap (λ o. ports_of (task_in o)) t.operator_is ∙ sym count;
+          few =
+              omega (arith, count);
+        };
         ports = λ i e l. absurd (omega (arith, l, count));
-        emits = subst (λ (o : Option PlanOperator). EmitsIn o no_messages [] []) (sym t.operator_is) refl;
+        emits = subst (λ (o : Option PlanOperator). EmitsIn o no_messages [] []) (sym t.operator_is)
+            refl;
         nothing_sent = t.nothing_sent;
         nothing_pending = t.nothing_pending;
       }) s-new)

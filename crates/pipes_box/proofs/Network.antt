@@ -1,5 +1,6 @@
 -- What the nodes of a plan at work have put is the plan's answer, from the leaves to the root.
-use Rattle.std.proofs.Common.{◌≡◌, ℕ, zero, suc, ◌+◌, ◌≤◌, ◌<◌, List, [], ◌∷◌, ◌++◌, length, get_or, Option, Some, None, refl, sym, ◌∙◌, ap, subst, arith, append_assoc}
+use Rattle.std.proofs.Common.{◌≡◌, ℕ, zero, suc, ◌+◌, ◌≤◌, ◌<◌, List, [], ◌∷◌, ◌++◌, length, get_or}
+use Rattle.std.proofs.Common.{Option, Some, None, refl, sym, ◌∙◌, ap, subst, arith, append_assoc}
 use Rattle.std.specs.Option.{option_map}
 use Rattle.pipes_tuple.specs.declared.value.Kind.{Kind}
 use Rattle.pipes_stream.specs.declared.message.Message.{Message}
@@ -12,21 +13,28 @@ use Rattle.pipes_box.specs.declared.port.Port.{Port}
 use Rattle.pipes_box.specs.declared.node.Node.{Node}
 use Rattle.pipes_box.specs.Operators.{task_of, held_by}
 use Rattle.pipes_box.specs.Passing.{Passes}
-use Rattle.pipes_box.specs.Nodes.{IsCounted, PortStands, Emits, EmitsIn, NodeStands, task_in, ports_of, kinds_at}
-use Rattle.pipes_box.specs.Shapes.{Shape, Leaf, One, Two, gives_of, node_count, leaf_count, GivenFits, Answers, KeepsBags, IsProper}
+use Rattle.pipes_box.specs.Nodes.{IsCounted, PortStands, Emits, EmitsIn, NodeStands, task_in}
+use Rattle.pipes_box.specs.Nodes.{ports_of, kinds_at}
+use Rattle.pipes_box.specs.Shapes.{Shape, Leaf, One, Two, gives_of, node_count, leaf_count}
+use Rattle.pipes_box.specs.Shapes.{GivenFits, Answers, KeepsBags, IsProper}
 use Rattle.pipes_box.specs.Networks.{LinkHolds, IsLinked, IsWired, LeavesGave, ChildAt, root_of}
 use Rattle.pipes_box.proofs.Emitting.{emits-lawful}
 use Rattle.pipes_box.proofs.Passed.{passes-all}
 use Rattle.pipes_box.proofs.Answering.{answers-leaf, answers-one, answers-two, answers-prefix}
 
 -- a node with a task has an operator with it, which owes what the node emits
-emits-task : (o : Option PlanOperator) (task : Task) (passed : Lists) (out pending : List Message) → task_in o ≡ Some task → EmitsIn o passed out pending → (held : ℕ) × Lawful task passed (out ++ pending) held
+emits-task : (o : Option PlanOperator) (task : Task) (passed : Lists) (out pending : List Message)
+    → task_in o ≡ Some task → EmitsIn o passed out pending → (held : ℕ)
+    × Lawful task passed (out ++ pending) held
 emits-task None task passed out pending t e = absurd (none-some task t) where
   none-some : (task : Task) → ◌≡◌ {A = Option Task} None (Some task) → ⊥
   none-some task h = cc
 emits-task (Some op) task passed out pending t e =
-    let same : task_of op ≡ task = some-same (task_of op) task t in
-    (held_by op, subst (λ (x : Task). Lawful x passed (out ++ pending) (held_by op)) same (emits-lawful op passed (out ++ pending) e)) where
+    let same : task_of op ≡ task = some-same (task_of op) task t in (
+      held_by op,
+      subst (λ (x : Task). Lawful x passed (out ++ pending) (held_by op)) same
+          (emits-lawful op passed (out ++ pending) e),
+    ) where
       some-same : (x y : Task) → ◌≡◌ {A = Option Task} (Some x) (Some y) → x ≡ y
       some-same x y h = cc
 
@@ -35,45 +43,70 @@ some-port [] h = absurd (omega (arith, h))
 some-port (p ∷ ps) h = p
 
 -- what passed at a port is the child's answer
-port-answers : (a : Shape) (n : ℕ) (given : Lists) (outlet : Outlet Message) (p : Port) (passed : List Message) → LinkHolds outlet p → PortStands p passed → p.schema ≡ gives_of a → Answers a n given (sent outlet) → Answers a n given passed
+port-answers : (a : Shape) (n : ℕ) (given : Lists) (outlet : Outlet Message) (p : Port)
+    (passed : List Message) → LinkHolds outlet p → PortStands p passed → p.schema ≡ gives_of a
+    → Answers a n given (sent outlet) → Answers a n given passed
 port-answers a n given outlet p passed link stands kinds answers =
-    let joined : sent outlet ≡ taken p.inlet ++ (known p.inlet ++ link.rest) = link.in_order ∙ append_assoc (taken p.inlet) (known p.inlet) link.rest in
-    let got : Answers a n given (taken p.inlet) = answers-prefix a n given (taken p.inlet) (known p.inlet ++ link.rest) (subst (Answers a n given) joined answers) in
-    let all : passed ≡ taken p.inlet = passes-all (gives_of a) start_of_list (taken p.inlet) passed got.valid got.fits (subst (λ (ks : List Kind). Passes ks start_of_list (taken p.inlet) passed) kinds stands.passes) in
+    let joined : sent outlet ≡ taken p.inlet ++ (known p.inlet ++ link.rest) = link.in_order
+    ∙ append_assoc (taken p.inlet) (known p.inlet) link.rest in
+    let got : Answers a n given (taken p.inlet) = answers-prefix a n given (taken p.inlet)
+    (known p.inlet ++ link.rest) (subst (Answers a n given) joined answers) in
+    let all : passed ≡ taken p.inlet = passes-all (gives_of a) start_of_list (taken p.inlet) passed
+    got.valid got.fits (subst (λ (ks : List Kind). Passes ks start_of_list (taken p.inlet)
+    passed) kinds stands.passes) in
     subst (Answers a n given) (sym all) got
 
-module _ (nodes : List Node) (d : Node) (linked : IsLinked nodes) (stands : (k : ℕ) → k < length nodes → NodeStands (get_or nodes k d)) where
+module _ (nodes : List Node) (d : Node) (linked : IsLinked nodes) (stands : (k : ℕ)
+    → k < length nodes → NodeStands (get_or nodes k d)) where
   abbrev node : ℕ → Node
   node k = get_or nodes k d
 
-  at-port : (a : Shape) (n : ℕ) (given : Lists) (j port child : ℕ) (task : Task) (small : j < length nodes) → task_in (node j).operator ≡ Some task → port < task.ports → task.takes port ≡ gives_of a → ChildAt (node j) port child
-      → Answers a n given (sent (node child).outlet) → Answers a n given ((stands j small).passed port)
+  at-port : (a : Shape) (n : ℕ) (given : Lists) (j port child : ℕ) (task : Task)
+      (small : j < length nodes) → task_in (node j).operator ≡ Some task → port < task.ports
+      → task.takes port ≡ gives_of a → ChildAt (node j) port child
+      → Answers a n given (sent (node child).outlet) → Answers a n given
+      ((stands j small).passed port)
   at-port a n given j port child task small is-task in-range kinds child-is answers =
-      let count : task.ports ≡ length (node j).ports.items = sym (ap ports_of is-task) ∙ (linked.counted j d small).count in
+      let count : task.ports ≡ length (node j).ports.items = sym (ap ports_of is-task)
+      ∙ (linked.counted j d small).count in
       let there : port < length (node j).ports.items = omega (arith, in-range, count) in
       let e : Port = some-port (node j).ports.items (omega (arith, there)) in
       let p : Port = get_or (node j).ports.items port e in
-      let link : LinkHolds (node child).outlet p = subst (λ (k : ℕ). LinkHolds (node k).outlet p) (child-is e) (linked.links j d port e small there) in
-      let same : p.schema ≡ gives_of a = sym ((stands j small).kinds port e there) ∙ ap (λ (o : Option Task). kinds_at o port) is-task ∙ kinds in
-      port-answers a n given (node child).outlet p ((stands j small).passed port) link ((stands j small).ports port e there) same answers
+      let link : LinkHolds (node child).outlet p = subst (λ (k : ℕ). LinkHolds (node k).outlet p)
+      (child-is e) (linked.links j d port e small there) in
+      let same : p.schema ≡ gives_of a = sym ((stands j small).kinds port e there)
+      ∙ ap (λ (o : Option Task). kinds_at o port) is-task ∙ kinds in
+      port-answers a n given (node child).outlet p ((stands j small).passed port) link
+      ((stands j small).ports port e there) same answers
 
-  pub network : (s : Shape) (i n : ℕ) (given : Lists) → i + node_count s ≤ length nodes → IsProper s → IsWired node s i → LeavesGave node s i n given → GivenFits s n given → Answers s n given (sent (node (root_of s i)).outlet)
-  network (Leaf source kinds) i n given small proper wired gave fits = subst (Answers (Leaf source kinds) n given) gave (answers-leaf source kinds n given fits)
+  pub network : (s : Shape) (i n : ℕ) (given : Lists) → i + node_count s ≤ length nodes → IsProper s
+      → IsWired node s i → LeavesGave node s i n given → GivenFits s n given
+      → Answers s n given (sent (node (root_of s i)).outlet)
+  network (Leaf source kinds) i n given small proper wired gave fits =
+      subst (Answers (Leaf source kinds) n given) gave (answers-leaf source kinds n given fits)
   network (One task a) i n given small proper wired gave fits =
       let j : ℕ = i + node_count a in
       let there : j < length nodes = omega (arith, small) in
       let child = network a i n given (omega (arith, small)) proper.3 wired.0 gave fits in
-      let passed = at-port a n given j 0 (root_of a i) task there wired.1 (omega (arith, proper.1)) proper.2 wired.2 child in
-      let l = emits-task (node j).operator task (stands j there).passed (sent (node j).outlet) (node j).pending.items wired.1 (stands j there).emits in
+      let passed = at-port a n given j 0 (root_of a i) task there wired.1 (omega (arith, proper.1))
+      proper.2 wired.2 child in
+      let l = emits-task (node j).operator task (stands j there).passed (sent (node j).outlet)
+      (node j).pending.items wired.1 (stands j there).emits in
       answers-prefix (One task a) n given (sent (node j).outlet) (node j).pending.items
-      (answers-one task a n l.0 given (stands j there).passed (sent (node j).outlet ++ (node j).pending.items) proper.0 proper.1 passed l.1)
+      (answers-one task a n l.0 given (stands j there).passed (sent (node j).outlet
+      ++ (node j).pending.items) proper.0 proper.1 passed l.1)
   network (Two task a b) i n given small proper wired gave fits =
       let j : ℕ = i + (node_count a + node_count b) in
       let there : j < length nodes = omega (arith, small) in
       let left = network a i n given (omega (arith, small)) proper.4 wired.0 gave.0 fits.0 in
-      let right = network b (i + node_count a) (n + leaf_count a) given (omega (arith, small)) proper.5 wired.1 gave.1 fits.1 in
-      let lefts = at-port a n given j 0 (root_of a i) task there wired.2 (omega (arith, proper.1)) proper.2 wired.3 left in
-      let rights = at-port b (n + leaf_count a) given j 1 (root_of b (i + node_count a)) task there wired.2 (omega (arith, proper.1)) proper.3 wired.4 right in
-      let l = emits-task (node j).operator task (stands j there).passed (sent (node j).outlet) (node j).pending.items wired.2 (stands j there).emits in
+      let right = network b (i + node_count a) (n + leaf_count a) given (omega (arith, small))
+      proper.5 wired.1 gave.1 fits.1 in
+      let lefts = at-port a n given j 0 (root_of a i) task there wired.2 (omega (arith, proper.1))
+      proper.2 wired.3 left in
+      let rights = at-port b (n + leaf_count a) given j 1 (root_of b (i + node_count a)) task there
+      wired.2 (omega (arith, proper.1)) proper.3 wired.4 right in
+      let l = emits-task (node j).operator task (stands j there).passed (sent (node j).outlet)
+      (node j).pending.items wired.2 (stands j there).emits in
       answers-prefix (Two task a b) n given (sent (node j).outlet) (node j).pending.items
-      (answers-two task a b n l.0 given (stands j there).passed (sent (node j).outlet ++ (node j).pending.items) proper.0 proper.1 lefts rights l.1)
+      (answers-two task a b n l.0 given (stands j there).passed (sent (node j).outlet
+      ++ (node j).pending.items) proper.0 proper.1 lefts rights l.1)

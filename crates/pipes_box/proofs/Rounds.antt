@@ -1,5 +1,7 @@
 -- What a round leaves of a box.
-use Rattle.std.proofs.Common.{◌≡◌, ℕ, zero, suc, ◌+◌, ◌≤◌, ◌<◌, false, List, [], ◌∷◌, ◌++◌, length, get_or, set, length-set, inl, inr, Option, Some, None, refl, sym, ◌∙◌, ap, subst, arith, append_assoc, append-nil, length-append}
+use Rattle.std.proofs.Common.{◌≡◌, ℕ, zero, suc, ◌+◌, ◌≤◌, ◌<◌, false, List, [], ◌∷◌, ◌++◌, length}
+use Rattle.std.proofs.Common.{get_or, set, length-set, inl, inr, Option, Some, None, refl, sym, ◌∙◌}
+use Rattle.std.proofs.Common.{ap, subst, arith, append_assoc, append-nil, length-append}
 use Rattle.std.specs.Prelude.{IfSome, IfNone}
 use Rattle.std.proofs.lemmas.List.{get_or-set_same, get_or-set_other}
 use Rattle.pipes_tuple.specs.declared.value.Kind.{Kind}
@@ -8,17 +10,22 @@ use Rattle.pipes_stream.specs.Lists.{start_of_list}
 use Rattle.pipes_stream.specs.Lawful.{Lists, Task}
 use Rattle.pipes_link.specs.declared.outlet.Outlet.{Outlet}
 use Rattle.pipes_link.specs.declared.inlet.Inlet.{Inlet}
-use Rattle.pipes_link.specs.Ends.{sent, spare, room_of, taken, known, ready, AreEnds, SameOutlet, SameInlet}
+use Rattle.pipes_link.specs.Ends.{sent, spare, room_of, taken, known, ready, AreEnds, SameOutlet}
+use Rattle.pipes_link.specs.Ends.{SameInlet}
 use Rattle.pipes_link.proofs.Keeping.{ends_keep, same_inlet_self, same_outlet_self}
 use Rattle.pipes_plan.specs.declared.plan.Plan.{Plan}
 use Rattle.pipes_box.specs.declared.operator.PlanOperator.{PlanOperator}
 use Rattle.pipes_box.specs.declared.port.Port.{Port}
 use Rattle.pipes_box.specs.declared.node.Node.{Node}
 use Rattle.pipes_box.specs.declared.plan_box.PlanBox.{PlanBox}
-use Rattle.pipes_box.specs.Nodes.{IsCounted, EmitsIn, NodeStands, NodeLooks, PortLooks, PortStands, NodeMoves, PortMoves, NodeTurned, Turned, total_ready, task_in, ports_of, kinds_at}
+use Rattle.pipes_box.specs.Nodes.{IsCounted, EmitsIn, NodeStands, NodeLooks, PortLooks, PortStands}
+use Rattle.pipes_box.specs.Nodes.{NodeMoves, PortMoves, NodeTurned, Turned, total_ready, task_in}
+use Rattle.pipes_box.specs.Nodes.{ports_of, kinds_at}
 use Rattle.pipes_box.specs.Passing.{Passes}
-use Rattle.pipes_box.specs.Shapes.{Shape, Leaf, One, Two, shape_of, node_count, leaf_count, IsProper}
-use Rattle.pipes_box.specs.Networks.{EndsHold, LinkHolds, IsLinked, IsWired, LeavesGave, ChildAt, root_of, Settles}
+use Rattle.pipes_box.specs.Shapes.{Shape, Leaf, One, Two, shape_of, node_count, leaf_count}
+use Rattle.pipes_box.specs.Shapes.{IsProper}
+use Rattle.pipes_box.specs.Networks.{EndsHold, LinkHolds, IsLinked, IsWired, LeavesGave, ChildAt}
+use Rattle.pipes_box.specs.Networks.{root_of, Settles}
 use Rattle.pipes_box.specs.Boxes.{IsSound, BoxStands}
 use Rattle.pipes_box.specs.Rounds.{TopLooks}
 use Rattle.pipes_box.proofs.NodeSteps.{place, get-any}
@@ -35,20 +42,28 @@ looks-stands a b l s = record {
       let p = s.ports k d small in
       let q = l.ports k d small in
       record {
-        passes = subst (λ (ks : List Kind). Passes ks start_of_list (taken (get_or b.ports.items k d).inlet) (s.passed k)) (sym q.schema) (subst (λ (xs : List Message). Passes (get_or a.ports.items k d).schema start_of_list xs (s.passed k)) (sym q.taken) p.passes);
+        passes = subst (λ (ks : List Kind). Passes ks start_of_list
+            (taken (get_or b.ports.items k d).inlet) (s.passed k)) (sym q.schema)
+            (subst (λ (xs : List Message). Passes (get_or a.ports.items k d).schema start_of_list xs
+            (s.passed k)) (sym q.taken) p.passes);
         watch = q.watch ∙ p.watch;
       };
   kinds = λ k d h.
       let small : k < length a.ports.items = omega (arith, h, l.count) in
-      ap (λ (o : Option PlanOperator). kinds_at (task_in o) k) l.operator ∙ s.kinds k d small ∙ sym (l.ports k d small).schema;
-  emits = subst (λ (o : Option PlanOperator). EmitsIn o s.passed (sent b.outlet) b.pending.items) (sym l.operator)
-      (subst (λ (xs : List Message). EmitsIn a.operator s.passed xs b.pending.items) (sym l.sent) (subst (λ v. EmitsIn a.operator s.passed (sent a.outlet) v.items) (sym l.pending) s.emits));
+      ap (λ (o : Option PlanOperator). kinds_at (task_in o) k) l.operator ∙ s.kinds k d small
+      ∙ sym (l.ports k d small).schema;
+  emits = subst (λ (o : Option PlanOperator). EmitsIn o s.passed (sent b.outlet) b.pending.items)
+      (sym l.operator)
+      (subst (λ (xs : List Message). EmitsIn a.operator s.passed xs b.pending.items) (sym l.sent)
+      (subst (λ v. EmitsIn a.operator s.passed (sent a.outlet) v.items) (sym l.pending)
+      s.emits));
 }
 
 -- what a node keeps in a look and in a turn
 pub record NodeKeeps (a b : Node) : Type 0 where
   pub task : task_in b.operator ≡ task_in a.operator
-  pub child : (k : ℕ) (d : Port) → k < length a.ports.items → (get_or b.ports.items k d).child ≡ (get_or a.ports.items k d).child
+  pub child : (k : ℕ) (d : Port) → k < length a.ports.items → (get_or b.ports.items k d).child ≡
+      (get_or a.ports.items k d).child
 
 pub looks-keeps : (a b : Node) → NodeLooks a b → NodeKeeps a b
 looks-keeps a b l = record { task = ap task_in l.operator; child = λ k d h. (l.ports k d h).child }
@@ -64,7 +79,8 @@ no-task (Some op) h = absurd (some-none op h) where
   some-none op h = cc
 
 source-quiet : (n : Node) → task_in n.operator ≡ None → NodeStands n → n.pending.items ≡ []
-source-quiet n t s = subst (λ (o : Option PlanOperator). EmitsIn o s.passed (sent n.outlet) n.pending.items) (no-task n.operator t) s.emits
+source-quiet n t s = subst (λ (o : Option PlanOperator). EmitsIn o s.passed (sent n.outlet)
+    n.pending.items) (no-task n.operator t) s.emits
 
 no-ports : (ps : List Port) → length ps ≡ 0 → total_ready ps ≡ 0
 no-ports [] h = refl
@@ -75,27 +91,42 @@ no-more [] h = refl
 no-more (x ∷ xs) h = absurd (omega (arith, h))
 
 -- a turn of a source puts nothing
-pub source-turn : (a b : Node) → task_in a.operator ≡ None → IsCounted a → NodeStands a → NodeMoves a b → Turned a b → sent b.outlet ≡ sent a.outlet
+pub source-turn : (a b : Node) → task_in a.operator ≡ None → IsCounted a → NodeStands a
+    → NodeMoves a b → Turned a b → sent b.outlet ≡ sent a.outlet
 source-turn a b t counted s m turned =
     let none : length a.ports.items ≡ 0 = sym counted.count ∙ ap ports_of t in
     let quiet : length a.pending.items ≡ 0 = ap length (source-quiet a t s) in
     let put : turned.put ≡ 0 = omega (arith, turned.kept (no-ports a.ports.items none), quiet) in
     let same : length (sent b.outlet) ≡ length (sent a.outlet) = omega (arith, turned.sent, put) in
-    let more : length m.puts.0 ≡ 0 = omega (arith, same, ap length m.puts.1, length-append (sent a.outlet) m.puts.0) in
-    m.puts.1 ∙ ap (λ (xs : List Message). sent a.outlet ++ xs) (no-more m.puts.0 more) ∙ append-nil (sent a.outlet)
+    let more : length m.puts.0 ≡ 0 = omega (
+      arith,
+      same,
+      ap length m.puts.1,
+      length-append (sent a.outlet) m.puts.0,
+    ) in
+    m.puts.1 ∙ ap (λ (xs : List Message). sent a.outlet ++ xs) (no-more m.puts.0 more)
+    ∙ append-nil (sent a.outlet)
 
 -- ---- the plan at work stays wired
 
-module _ (old new : ℕ → Node) (limit : ℕ) (counted : (k : ℕ) → k < limit → IsCounted (old k)) (keeps : (k : ℕ) → k < limit → NodeKeeps (old k) (new k)) where
-  child-kept : (j port child : ℕ) (task : Task) → j < limit → task_in (old j).operator ≡ Some task → port < task.ports → ChildAt (old j) port child → ChildAt (new j) port child
-  child-kept j port child task h t in-range c = λ e. (keeps j h).child port e (omega (arith, in-range, (counted j h).count, ap ports_of t)) ∙ c e
+module _ (old new : ℕ → Node) (limit : ℕ) (counted : (k : ℕ) → k < limit → IsCounted (old k))
+    (keeps : (k : ℕ) → k < limit → NodeKeeps (old k) (new k)) where
+  child-kept : (j port child : ℕ) (task : Task) → j < limit → task_in (old j).operator ≡ Some task
+      → port < task.ports → ChildAt (old j) port child → ChildAt (new j) port child
+  child-kept j port child task h t in-range c = λ e. (keeps j h).child port e
+      (omega (arith, in-range, (counted j h).count, ap ports_of t)) ∙ c e
 
-  pub wired-kept : (s : Shape) (i : ℕ) → i + node_count s ≤ limit → IsProper s → IsWired old s i → IsWired new s i
+  pub wired-kept : (s : Shape) (i : ℕ) → i + node_count s ≤ limit → IsProper s → IsWired old s i
+      → IsWired new s i
   wired-kept (Leaf source kinds) i h p w = (keeps i (omega (arith, h))).task ∙ w
   wired-kept (One task a) i h p w =
       let j : ℕ = i + node_count a in
-      let there : j < limit = omega (arith, h) in
-      (wired-kept a i (omega (arith, h)) p.3 w.0, (keeps j there).task ∙ w.1, child-kept j 0 (root_of a i) task there w.1 (omega (arith, p.1)) w.2)
+      let there : j < limit = omega (arith, h) in (
+        wired-kept a i (omega (arith, h)) p.3 w.0,
+        (keeps j there).task
+            ∙ w.1,
+        child-kept j 0 (root_of a i) task there w.1 (omega (arith, p.1)) w.2,
+      )
   wired-kept (Two task a b) i h p w =
       let j : ℕ = i + (node_count a + node_count b) in
       let there : j < limit = omega (arith, h) in (
@@ -107,36 +138,53 @@ module _ (old new : ℕ → Node) (limit : ℕ) (counted : (k : ℕ) → k < lim
       )
 
   -- nothing was given where the sources put nothing
-  pub gave-kept : (given : Lists) (s : Shape) (i n : ℕ) → i + node_count s ≤ limit → ((k : ℕ) → k < limit → task_in (old k).operator ≡ None → sent (new k).outlet ≡ sent (old k).outlet) → IsWired old s i → LeavesGave old s i n given → LeavesGave new s i n given
+  pub gave-kept : (given : Lists) (s : Shape) (i n : ℕ) → i + node_count s ≤ limit
+      → ((k : ℕ) → k < limit → task_in (old k).operator ≡ None
+      → sent (new k).outlet ≡ sent (old k).outlet) → IsWired old s i → LeavesGave old s i n given
+      → LeavesGave new s i n given
   gave-kept given (Leaf source kinds) i n h same w g = g ∙ sym (same i (omega (arith, h)) w)
   gave-kept given (One task a) i n h same w g = gave-kept given a i n (omega (arith, h)) same w.0 g
-  gave-kept given (Two task a b) i n h same w g = (gave-kept given a i n (omega (arith, h)) same w.0 g.0, gave-kept given b (i + node_count a) (n + leaf_count a) (omega (arith, h)) same w.1 g.1)
+  gave-kept given (Two task a b) i n h same w g = (
+    gave-kept given a i n (omega (arith, h)) same w.0 g.0,
+    gave-kept given b (i + node_count a)
+        (n + leaf_count a) (omega (arith, h)) same w.1 g.1,
+  )
 
 -- ---- the links hold after a turn
 
-turned-link : (a b : Outlet Message) (p q : Port) → SameOutlet a b → ((more : List Message) × (sent b ≡ sent a ++ more)) → PortMoves p q → LinkHolds a p → LinkHolds b q
+turned-link : (a b : Outlet Message) (p q : Port) → SameOutlet a b
+    → ((more : List Message) × (sent b ≡ sent a ++ more)) → PortMoves p q → LinkHolds a p
+    → LinkHolds b q
 turned-link a b p q same puts moves l = record {
   ends = ends_keep a b p.inlet q.inlet same moves.same_link l.ends;
   rest = l.rest ++ puts.0;
-  in_order = puts.1 ∙ ap (λ (xs : List Message). xs ++ puts.0) l.in_order ∙ append_assoc (taken p.inlet ++ known p.inlet) l.rest puts.0 ∙ ap (λ (xs : List Message). xs ++ (l.rest ++ puts.0)) (sym moves.in_order);
+  in_order = puts.1 ∙ ap (λ (xs : List Message). xs ++ puts.0) l.in_order
+      ∙ append_assoc (taken p.inlet ++ known p.inlet) l.rest puts.0
+      ∙ ap (λ (xs : List Message). xs ++ (l.rest ++ puts.0)) (sym moves.in_order);
 }
 
-pub linked-moved : (old new : List Node) → length new ≡ length old → ((k : ℕ) (d : Node) → k < length old → IsCounted (get_or new k d) × NodeMoves (get_or old k d) (get_or new k d)) → IsLinked old → IsLinked new
+pub linked-moved : (old new : List Node) → length new ≡ length old
+    → ((k : ℕ) (d : Node) → k < length old → IsCounted (get_or new k d)
+    × NodeMoves (get_or old k d) (get_or new k d)) → IsLinked old → IsLinked new
 linked-moved old new count turned linked = record {
   counted = λ k d h. (turned k d (omega (arith, h, count))).0;
   earlier = λ k d i e h l.
       let small : k < length old = omega (arith, h, count) in
       let moves = (turned k d small).1 in
       let there : i < length (get_or old k d).ports.items = omega (arith, l, moves.count) in
-      subst (λ (c : ℕ). c < k) (sym (moves.ports i e there).child) (linked.earlier k d i e small there);
+      subst (λ (c : ℕ). c < k) (sym (moves.ports i e there).child)
+      (linked.earlier k d i e small there);
   links = λ k d i e h l.
       let small : k < length old = omega (arith, h, count) in
       let moves = (turned k d small).1 in
       let there : i < length (get_or old k d).ports.items = omega (arith, l, moves.count) in
       let c : ℕ = (get_or (get_or old k d).ports.items i e).child in
       let below = (turned c d (omega (arith, linked.earlier k d i e small there, small))).1 in
-      subst (λ (z : ℕ). LinkHolds (get_or new z d).outlet (get_or (get_or new k d).ports.items i e)) (sym (moves.ports i e there).child)
-      (turned-link (get_or old c d).outlet (get_or new c d).outlet (get_or (get_or old k d).ports.items i e) (get_or (get_or new k d).ports.items i e) below.same_link below.puts (moves.ports i e there) (linked.links k d i e small there));
+      subst (λ (z : ℕ). LinkHolds (get_or new z d).outlet (get_or (get_or new k d).ports.items i e))
+      (sym (moves.ports i e there).child)
+      (turned-link (get_or old c d).outlet (get_or new c d).outlet
+      (get_or (get_or old k d).ports.items i e) (get_or (get_or new k d).ports.items i e)
+      below.same_link below.puts (moves.ports i e there) (linked.links k d i e small there));
 }
 
 -- ---- boxes
@@ -147,8 +195,11 @@ pub record Renews (old new : PlanBox) : Type 0 where
   pub linked : IsLinked new.nodes.items
   pub top : new.top ≡ old.top
   pub leaves : new.leaves.items ≡ old.leaves.items
-  pub outlets : (k : ℕ) (d : Node) → k < length old.nodes.items → SameOutlet (get_or old.nodes.items k d).outlet (get_or new.nodes.items k d).outlet
-  pub puts : (k : ℕ) (d : Node) → k < length old.nodes.items → (more : List Message) × (sent (get_or new.nodes.items k d).outlet ≡ sent (get_or old.nodes.items k d).outlet ++ more)
+  pub outlets : (k : ℕ) (d : Node) → k < length old.nodes.items
+      → SameOutlet (get_or old.nodes.items k d).outlet (get_or new.nodes.items k d).outlet
+  pub puts : (k : ℕ) (d : Node) → k < length old.nodes.items → (more : List Message)
+      × (sent (get_or new.nodes.items k d).outlet ≡ sent (get_or old.nodes.items k d).outlet
+      ++ more)
 
 pub renews-sound : (old new : PlanBox) → Renews old new → IsSound old → IsSound new
 renews-sound old new r s = record {
@@ -160,106 +211,169 @@ renews-sound old new r s = record {
       let t = s.top d in
       let puts = r.puts s.root d there in
       subst (EndsHold (get_or new.nodes.items s.root d).outlet) (sym r.top) (record {
-        ends = ends_keep (get_or old.nodes.items s.root d).outlet (get_or new.nodes.items s.root d).outlet old.top old.top (r.outlets s.root d there) (same_inlet_self old.top) t.ends;
+        ends = ends_keep (get_or old.nodes.items s.root d).outlet
+            (get_or new.nodes.items s.root d).outlet old.top old.top (r.outlets s.root d there)
+            (same_inlet_self old.top) t.ends;
         rest = t.rest ++ puts.0;
-        in_order = puts.1 ∙ ap (λ (xs : List Message). xs ++ puts.0) t.in_order ∙ append_assoc (taken old.top ++ known old.top) t.rest puts.0;
+        in_order = puts.1 ∙ ap (λ (xs : List Message). xs ++ puts.0) t.in_order
+            ∙ append_assoc (taken old.top ++ known old.top) t.rest puts.0;
       });
-  leaves = λ k d h. subst (λ ls. k < length ls → (get_or ls k d).node < length new.nodes.items) (sym r.leaves) (λ l. omega (arith, s.leaves k d l, r.count)) h;
+  leaves = λ k d h. subst (λ ls. k < length ls → (get_or ls k d).node < length new.nodes.items)
+      (sym r.leaves) (λ l. omega (arith, s.leaves k d l, r.count)) h;
 }
 
-pub renews-stands : (old new : PlanBox) → Renews old new → IsLinked old.nodes.items → ((k : ℕ) (d : Node) → k < length old.nodes.items → NodeKeeps (get_or old.nodes.items k d) (get_or new.nodes.items k d))
-    → ((k : ℕ) (d : Node) → k < length old.nodes.items → NodeStands (get_or old.nodes.items k d) → NodeStands (get_or new.nodes.items k d))
-    → ((k : ℕ) (d : Node) → k < length old.nodes.items → NodeStands (get_or old.nodes.items k d) → task_in (get_or old.nodes.items k d).operator ≡ None → sent (get_or new.nodes.items k d).outlet ≡ sent (get_or old.nodes.items k d).outlet)
-    → new.failed ≡ false → (schemas : List (List Kind)) (plan : Plan) (given : Lists) (got : List Message) → BoxStands old schemas plan given got → BoxStands new schemas plan given got
+pub renews-stands : (old new : PlanBox) → Renews old new → IsLinked old.nodes.items
+    → ((k : ℕ) (d : Node) → k < length old.nodes.items → NodeKeeps (get_or old.nodes.items k d)
+    (get_or new.nodes.items k d))
+    → ((k : ℕ) (d : Node) → k < length old.nodes.items → NodeStands (get_or old.nodes.items k d)
+    → NodeStands (get_or new.nodes.items k d))
+    → ((k : ℕ) (d : Node) → k < length old.nodes.items → NodeStands (get_or old.nodes.items k d)
+    → task_in (get_or old.nodes.items k d).operator ≡ None
+    → sent (get_or new.nodes.items k d).outlet ≡ sent (get_or old.nodes.items k d).outlet)
+    → new.failed ≡ false → (schemas : List (List Kind)) (plan : Plan) (given : Lists)
+    (got : List Message) → BoxStands old schemas plan given got
+    → BoxStands new schemas plan given got
 renews-stands old new r linked keeps stands sources going schemas plan given got b =
-    let size : 0 + node_count (shape_of schemas plan) ≤ length old.nodes.items = omega (arith, b.count) in
+    let size : 0 + node_count (shape_of schemas plan) ≤ length old.nodes.items =
+    omega (arith, b.count) in
     record {
       going = going;
       count = r.count ∙ b.count;
       wired = λ d.
-          wired-kept (λ k. get_or old.nodes.items k d) (λ k. get_or new.nodes.items k d) (length old.nodes.items) (λ k h. linked.counted k d h) (λ k h. keeps k d h) (shape_of schemas plan) 0 size b.proper (b.wired d);
+          wired-kept (λ k. get_or old.nodes.items k d) (λ k. get_or new.nodes.items k d)
+          (length old.nodes.items) (λ k h. linked.counted k d h) (λ k h. keeps k d h)
+          (shape_of schemas plan) 0 size b.proper (b.wired d);
       proper = b.proper;
-      stands = λ k d h. let small : k < length old.nodes.items = omega (arith, h, r.count) in stands k d small (b.stands k d small);
+      stands = λ k d h. let small : k < length old.nodes.items =
+          omega (arith, h, r.count) in stands k d small (b.stands k d small);
       leaves_are = r.leaves ∙ b.leaves_are;
       gave = λ d.
-          gave-kept (λ k. get_or old.nodes.items k d) (λ k. get_or new.nodes.items k d) (length old.nodes.items) (λ k h. linked.counted k d h) (λ k h. keeps k d h) given (shape_of schemas plan) 0 0 size
+          gave-kept (λ k. get_or old.nodes.items k d) (λ k. get_or new.nodes.items k d)
+          (length old.nodes.items) (λ k h. linked.counted k d h) (λ k h. keeps k d h) given
+          (shape_of schemas plan) 0 0 size
           (λ k h t. sources k d h (b.stands k d h) t) (b.wired d) (b.gave d);
       fits = b.fits;
       got_is = b.got_is ∙ sym (ap (λ (i : Inlet Message). taken i) r.top);
     }
 
 -- the links were settled
-pub settled-renews : (old new : PlanBox) → Settles old.nodes.items new.nodes.items (length old.nodes.items) 0 → new.top ≡ old.top → new.leaves ≡ old.leaves → Renews old new
+pub settled-renews : (old new : PlanBox) → Settles old.nodes.items new.nodes.items
+    (length old.nodes.items) 0 → new.top ≡ old.top → new.leaves ≡ old.leaves → Renews old new
 settled-renews old new s top leaves = record {
   count = s.count;
   linked = s.linked;
   top = top;
   leaves = ap (λ v. v.items) leaves;
   outlets = λ k d h. (s.looks k d h).same_link;
-  puts = λ k d h. ([], (s.looks k d h).sent ∙ sym (append-nil (sent (get_or old.nodes.items k d).outlet)));
+  puts = λ k d h. (
+    [],
+    (s.looks k d h).sent
+        ∙ sym (append-nil (sent (get_or old.nodes.items k d).outlet)),
+  );
 }
 
-pub settled-stands : (old new : PlanBox) → IsSound old → Settles old.nodes.items new.nodes.items (length old.nodes.items) 0 → new.top ≡ old.top → new.leaves ≡ old.leaves → new.failed ≡ old.failed
-    → (schemas : List (List Kind)) (plan : Plan) (given : Lists) (got : List Message) → BoxStands old schemas plan given got → BoxStands new schemas plan given got
+pub settled-stands : (old new : PlanBox) → IsSound old → Settles old.nodes.items new.nodes.items
+    (length old.nodes.items) 0 → new.top ≡ old.top → new.leaves ≡ old.leaves
+    → new.failed ≡ old.failed
+    → (schemas : List (List Kind)) (plan : Plan) (given : Lists) (got : List Message)
+    → BoxStands old schemas plan given got → BoxStands new schemas plan given got
 settled-stands old new sound s top leaves failed schemas plan given got b =
-    renews-stands old new (settled-renews old new s top leaves) sound.linked (λ k d h. looks-keeps (get_or old.nodes.items k d) (get_or new.nodes.items k d) (s.looks k d h))
-    (λ k d h. looks-stands (get_or old.nodes.items k d) (get_or new.nodes.items k d) (s.looks k d h)) (λ k d h n t. (s.looks k d h).sent) (failed ∙ b.going) schemas plan given got b
+    renews-stands old new (settled-renews old new s top leaves) sound.linked
+    (λ k d h. looks-keeps (get_or old.nodes.items k d) (get_or new.nodes.items k d)
+    (s.looks k d h))
+    (λ k d h. looks-stands (get_or old.nodes.items k d) (get_or new.nodes.items k d)
+    (s.looks k d h)) (λ k d h n t. (s.looks k d h).sent) (failed ∙ b.going) schemas plan given
+    got b
 
 -- the nodes were turned
-pub turned-renews : (old new : PlanBox) → IsSound old → length new.nodes.items ≡ length old.nodes.items → ((k : ℕ) (d : Node) → k < length old.nodes.items → NodeTurned (get_or old.nodes.items k d) (get_or new.nodes.items k d))
+pub turned-renews : (old new : PlanBox) → IsSound old → length new.nodes.items ≡ length
+    old.nodes.items → ((k : ℕ) (d : Node) → k < length old.nodes.items
+    → NodeTurned (get_or old.nodes.items k d) (get_or new.nodes.items k d))
     → new.top ≡ old.top → new.leaves ≡ old.leaves → Renews old new
 turned-renews old new sound count turned top leaves = record {
   count = count;
-  linked = linked-moved old.nodes.items new.nodes.items count (λ k d h. ((turned k d h).counted, (turned k d h).moves)) sound.linked;
+  linked = linked-moved old.nodes.items new.nodes.items count
+      (λ k d h. ((turned k d h).counted, (turned k d h).moves)) sound.linked;
   top = top;
   leaves = ap (λ v. v.items) leaves;
   outlets = λ k d h. (turned k d h).moves.same_link;
   puts = λ k d h. (turned k d h).moves.puts;
 }
 
-pub turned-stands : (old new : PlanBox) → IsSound old → length new.nodes.items ≡ length old.nodes.items → ((k : ℕ) (d : Node) → k < length old.nodes.items → NodeTurned (get_or old.nodes.items k d) (get_or new.nodes.items k d))
-    → new.top ≡ old.top → new.leaves ≡ old.leaves → new.failed ≡ false → ((k : ℕ) (d : Node) → k < length new.nodes.items → (get_or new.nodes.items k d).failed ≡ false)
-    → (schemas : List (List Kind)) (plan : Plan) (given : Lists) (got : List Message) → BoxStands old schemas plan given got → BoxStands new schemas plan given got
+pub turned-stands : (old new : PlanBox) → IsSound old → length new.nodes.items ≡ length
+    old.nodes.items → ((k : ℕ) (d : Node) → k < length old.nodes.items
+    → NodeTurned (get_or old.nodes.items k d) (get_or new.nodes.items k d))
+    → new.top ≡ old.top → new.leaves ≡ old.leaves → new.failed ≡ false
+    → ((k : ℕ) (d : Node) → k < length new.nodes.items →
+    (get_or new.nodes.items k d).failed ≡ false)
+    → (schemas : List (List Kind)) (plan : Plan) (given : Lists) (got : List Message)
+    → BoxStands old schemas plan given got → BoxStands new schemas plan given got
 turned-stands old new sound count turned top leaves failed going schemas plan given got b =
-    let each : (k : ℕ) (d : Node) → k < length old.nodes.items → Turned (get_or old.nodes.items k d) (get_or new.nodes.items k d) = λ k d h. (turned k d h).turned (going k d (omega (arith, h, count))) in
-    renews-stands old new (turned-renews old new sound count turned top leaves) sound.linked (λ k d h. moves-keeps (get_or old.nodes.items k d) (get_or new.nodes.items k d) (turned k d h).moves)
+    let each : (k : ℕ) (d : Node) → k < length old.nodes.items
+    → Turned (get_or old.nodes.items k d) (get_or new.nodes.items k d) =
+    λ k d h. (turned k d h).turned (going k d (omega (arith, h, count))) in
+    renews-stands old new (turned-renews old new sound count turned top leaves) sound.linked
+    (λ k d h. moves-keeps (get_or old.nodes.items k d) (get_or new.nodes.items k d)
+    (turned k d h).moves)
     (λ k d h. (each k d h).stands)
-    (λ k d h n t. source-turn (get_or old.nodes.items k d) (get_or new.nodes.items k d) t (sound.linked.counted k d h) n (turned k d h).moves (each k d h)) failed schemas plan given got b
+    (λ k d h n t. source-turn (get_or old.nodes.items k d) (get_or new.nodes.items k d) t
+    (sound.linked.counted k d h) n (turned k d h).moves (each k d h)) failed schemas plan given
+    got b
 
 -- the node at one place is looked at
-set-looks : (ns : List Node) (i : ℕ) (a : Node) → i < length ns → ((d : Node) → NodeLooks (get_or ns i d) a) → (k : ℕ) (d : Node) → k < length ns → NodeLooks (get_or ns k d) (get_or (set ns i a) k d)
+set-looks : (ns : List Node) (i : ℕ) (a : Node) → i < length ns
+    → ((d : Node) → NodeLooks (get_or ns i d) a) → (k : ℕ) (d : Node) → k < length ns
+    → NodeLooks (get_or ns k d) (get_or (set ns i a) k d)
 set-looks ns i a there looks k d h =
     elim (place k i) [
-      | inl e ↦ subst (λ (z : ℕ). NodeLooks (get_or ns z d) (get_or (set ns i a) z d)) (sym e) (subst (NodeLooks (get_or ns i d)) (sym (get_or-set_same ns i a d there)) (looks d))
-      | inr n ↦ subst (NodeLooks (get_or ns k d)) (sym (get_or-set_other ns i k a d n)) (node_looks-self (get_or ns k d))
+      | inl e ↦ subst (λ (z : ℕ). NodeLooks (get_or ns z d) (get_or (set ns i a) z d)) (sym e)
+          (subst (NodeLooks (get_or ns i d)) (sym (get_or-set_same ns i a d there)) (looks d))
+      | inr n ↦ subst (NodeLooks (get_or ns k d)) (sym (get_or-set_other ns i k a d n))
+          (node_looks-self (get_or ns k d))
     ]
 
-looks-linked : (old new : List Node) → length new ≡ length old → ((k : ℕ) (d : Node) → k < length old → NodeLooks (get_or old k d) (get_or new k d))
-    → ((k : ℕ) (d : Node) (i : ℕ) (e : Port) → k < length old → get_or (get_or new k d).ports.items i e ≡ get_or (get_or old k d).ports.items i e) → IsLinked old → IsLinked new
+looks-linked : (old new : List Node) → length new ≡ length old
+    → ((k : ℕ) (d : Node) → k < length old → NodeLooks (get_or old k d) (get_or new k d))
+    → ((k : ℕ) (d : Node) (i : ℕ) (e : Port) → k < length old
+    → get_or (get_or new k d).ports.items i e ≡ get_or (get_or old k d).ports.items i e)
+    → IsLinked old → IsLinked new
 looks-linked old new count looks same linked = record {
   counted = λ k d h.
       let small : k < length old = omega (arith, h, count) in
       let l = looks k d small in
       let c = linked.counted k d small in
-      record { count = ap (λ o. ports_of (task_in o)) l.operator ∙ c.count ∙ sym l.count; few = omega (arith, c.few, l.count) };
+      record {
+        count = ap (λ o. ports_of (task_in o)) l.operator ∙ c.count ∙ sym l.count;
+        few =
+            omega (arith, c.few, l.count);
+      };
   earlier = λ k d i e h l.
       let small : k < length old = omega (arith, h, count) in
-      subst (λ (p : Port). p.child < k) (sym (same k d i e small)) (linked.earlier k d i e small (omega (arith, l, (looks k d small).count)));
+      subst (λ (p : Port). p.child < k) (sym (same k d i e small))
+      (linked.earlier k d i e small (omega (arith, l, (looks k d small).count)));
   links = λ k d i e h l.
       let small : k < length old = omega (arith, h, count) in
-      let there : i < length (get_or old k d).ports.items = omega (arith, l, (looks k d small).count) in
+      let there : i < length (get_or old k d).ports.items = omega
+      (arith, l, (looks k d small).count) in
       let p : Port = get_or (get_or old k d).ports.items i e in
       let below = looks p.child d (omega (arith, linked.earlier k d i e small there, small)) in
       let link = linked.links k d i e small there in
       subst (λ (q : Port). LinkHolds (get_or new q.child d).outlet q) (sym (same k d i e small))
-      (record { ends = ends_keep (get_or old p.child d).outlet (get_or new p.child d).outlet p.inlet p.inlet below.same_link (same_inlet_self p.inlet) link.ends; rest = link.rest; in_order = below.sent ∙ link.in_order });
+      (record {
+        ends = ends_keep (get_or old p.child d).outlet (get_or new p.child d).outlet p.inlet
+            p.inlet below.same_link (same_inlet_self p.inlet) link.ends;
+        rest = link.rest;
+        in_order =
+            below.sent ∙ link.in_order;
+      });
 }
 
 -- the top link was settled
 pub record TopSettled (old new : PlanBox) (out : Outlet Message) : Type 0 where
   pub root : ℕ
   pub root_is : root + 1 ≡ length old.nodes.items
-  pub nodes : (d : Node) → new.nodes.items ≡ set old.nodes.items root (with_outlet (get_or old.nodes.items root d) out)
+  pub nodes : (d : Node) → new.nodes.items ≡ set old.nodes.items root
+      (with_outlet (get_or old.nodes.items root d) out)
   pub same_outlet : (d : Node) → SameOutlet (get_or old.nodes.items root d).outlet out
   pub sent_same : (d : Node) → sent out ≡ sent (get_or old.nodes.items root d).outlet
   pub spare_more : (d : Node) → spare (get_or old.nodes.items root d).outlet ≤ spare out
@@ -274,23 +388,35 @@ module _ (old new : PlanBox) (out : Outlet Message) (t : TopSettled old new out)
   top-there = omega (arith, t.root_is)
 
   top-count : length new.nodes.items ≡ length old.nodes.items
-  top-count = ap length (t.nodes e0) ∙ length-set old.nodes.items t.root (with_outlet (get_or old.nodes.items t.root e0) out)
+  top-count = ap length (t.nodes e0) ∙ length-set old.nodes.items t.root
+      (with_outlet (get_or old.nodes.items t.root e0) out)
 
-  top-looks : (k : ℕ) (d : Node) → k < length old.nodes.items → NodeLooks (get_or old.nodes.items k d) (get_or new.nodes.items k d)
+  top-looks : (k : ℕ) (d : Node) → k < length old.nodes.items
+      → NodeLooks (get_or old.nodes.items k d) (get_or new.nodes.items k d)
   top-looks k d h =
-      subst (λ (ns : List Node). NodeLooks (get_or old.nodes.items k d) (get_or ns k d)) (sym (t.nodes d))
-      (set-looks old.nodes.items t.root (with_outlet (get_or old.nodes.items t.root d) out) top-there
-      (λ e. subst (λ (n : Node). NodeLooks n (with_outlet (get_or old.nodes.items t.root d) out)) (get-any old.nodes.items t.root d e top-there) (looks-outlet (get_or old.nodes.items t.root d) out (t.same_outlet d) (t.sent_same d) (t.spare_more d))) k d h)
+      subst (λ (ns : List Node). NodeLooks (get_or old.nodes.items k d) (get_or ns k d))
+      (sym (t.nodes d))
+      (set-looks old.nodes.items t.root (with_outlet (get_or old.nodes.items t.root d) out)
+      top-there
+      (λ e. subst (λ (n : Node). NodeLooks n (with_outlet (get_or old.nodes.items t.root d) out))
+      (get-any old.nodes.items t.root d e top-there) (looks-outlet
+      (get_or old.nodes.items t.root d) out (t.same_outlet d) (t.sent_same d) (t.spare_more d)))
+      k d h)
 
-  top-ports : (k : ℕ) (d : Node) (i : ℕ) (e : Port) → k < length old.nodes.items → get_or (get_or new.nodes.items k d).ports.items i e ≡ get_or (get_or old.nodes.items k d).ports.items i e
+  top-ports : (k : ℕ) (d : Node) (i : ℕ) (e : Port) → k < length old.nodes.items
+      → get_or (get_or new.nodes.items k d).ports.items i e ≡ get_or
+      (get_or old.nodes.items k d).ports.items i e
   top-ports k d i e h =
       let a : Node = with_outlet (get_or old.nodes.items t.root d) out in
       ap (λ (ns : List Node). get_or (get_or ns k d).ports.items i e) (t.nodes d)
       ∙ elim (place k t.root) [
         | inl x ↦
-            subst (λ (z : ℕ). get_or (get_or (set old.nodes.items t.root a) z d).ports.items i e ≡ get_or (get_or old.nodes.items z d).ports.items i e) (sym x)
-            (ap (λ (n : Node). get_or n.ports.items i e) (get_or-set_same old.nodes.items t.root a d top-there))
-        | inr x ↦ ap (λ (n : Node). get_or n.ports.items i e) (get_or-set_other old.nodes.items t.root k a d x)
+            subst (λ (z : ℕ). get_or (get_or (set old.nodes.items t.root a) z d).ports.items i
+            e ≡ get_or (get_or old.nodes.items z d).ports.items i e) (sym x)
+            (ap (λ (n : Node). get_or n.ports.items i e) (get_or-set_same old.nodes.items t.root a d
+            top-there))
+        | inr x ↦ ap (λ (n : Node). get_or n.ports.items i e)
+            (get_or-set_other old.nodes.items t.root k a d x)
       ]
 
   pub top-sound : IsSound old → IsSound new
@@ -300,47 +426,70 @@ module _ (old new : PlanBox) (out : Outlet Message) (t : TopSettled old new out)
     root_is = t.root_is ∙ sym top-count;
     top = λ d.
         let is : out ≡ (get_or new.nodes.items t.root d).outlet =
-        sym (ap (λ (ns : List Node). (get_or ns t.root d).outlet) (t.nodes d) ∙ ap (λ (n : Node). n.outlet) (get_or-set_same old.nodes.items t.root (with_outlet (get_or old.nodes.items t.root d) out) d top-there)) in
-        subst (λ (o : Outlet Message). EndsHold o new.top) is (record { ends = t.ends; rest = []; in_order = sym t.waits ∙ sym (append-nil (taken new.top ++ known new.top)) });
-    leaves = λ k d h. subst (λ v. k < length v.items → (get_or v.items k d).node < length new.nodes.items) (sym t.leaves) (λ l. omega (arith, s.leaves k d l, top-count)) h;
+        sym (ap (λ (ns : List Node). (get_or ns t.root d).outlet) (t.nodes d)
+        ∙ ap (λ (n : Node). n.outlet) (get_or-set_same old.nodes.items t.root
+        (with_outlet (get_or old.nodes.items t.root d) out) d top-there)) in
+        subst (λ (o : Outlet Message). EndsHold o new.top) is
+        (record {
+          ends = t.ends;
+          rest = [];
+          in_order = sym t.waits
+              ∙ sym (append-nil (taken new.top ++ known new.top));
+        });
+    leaves = λ k d h. subst (λ v. k < length v.items → (get_or v.items k d).node < length
+        new.nodes.items) (sym t.leaves) (λ l. omega (arith, s.leaves k d l, top-count)) h;
   }
 
-  pub top-stands : IsSound old → (schemas : List (List Kind)) (plan : Plan) (given : Lists) (got : List Message) → BoxStands old schemas plan given got → BoxStands new schemas plan given got
+  pub top-stands : IsSound old → (schemas : List (List Kind)) (plan : Plan) (given : Lists)
+      (got : List Message) → BoxStands old schemas plan given got
+      → BoxStands new schemas plan given got
   top-stands s schemas plan given got b =
-      let size : 0 + node_count (shape_of schemas plan) ≤ length old.nodes.items = omega (arith, b.count) in
+      let size : 0 + node_count (shape_of schemas plan) ≤ length old.nodes.items =
+      omega (arith, b.count) in
       record {
         going = t.failed ∙ b.going;
         count = top-count ∙ b.count;
         wired = λ d.
-            wired-kept (λ k. get_or old.nodes.items k d) (λ k. get_or new.nodes.items k d) (length old.nodes.items) (λ k h. s.linked.counted k d h)
-            (λ k h. looks-keeps (get_or old.nodes.items k d) (get_or new.nodes.items k d) (top-looks k d h)) (shape_of schemas plan) 0 size b.proper (b.wired d);
+            wired-kept (λ k. get_or old.nodes.items k d) (λ k. get_or new.nodes.items k d)
+            (length old.nodes.items) (λ k h. s.linked.counted k d h)
+            (λ k h. looks-keeps (get_or old.nodes.items k d) (get_or new.nodes.items k d)
+            (top-looks k d h)) (shape_of schemas plan) 0 size b.proper (b.wired d);
         proper = b.proper;
         stands = λ k d h.
             let small : k < length old.nodes.items = omega (arith, h, top-count) in
-            looks-stands (get_or old.nodes.items k d) (get_or new.nodes.items k d) (top-looks k d small) (b.stands k d small);
+            looks-stands (get_or old.nodes.items k d) (get_or new.nodes.items k d)
+            (top-looks k d small) (b.stands k d small);
         leaves_are = ap (λ v. v.items) t.leaves ∙ b.leaves_are;
         gave = λ d.
-            gave-kept (λ k. get_or old.nodes.items k d) (λ k. get_or new.nodes.items k d) (length old.nodes.items) (λ k h. s.linked.counted k d h)
-            (λ k h. looks-keeps (get_or old.nodes.items k d) (get_or new.nodes.items k d) (top-looks k d h)) given (shape_of schemas plan) 0 0 size (λ k h x. (top-looks k d h).sent) (b.wired d) (b.gave d);
+            gave-kept (λ k. get_or old.nodes.items k d) (λ k. get_or new.nodes.items k d)
+            (length old.nodes.items) (λ k h. s.linked.counted k d h)
+            (λ k h. looks-keeps (get_or old.nodes.items k d) (get_or new.nodes.items k d)
+            (top-looks k d h)) given (shape_of schemas plan) 0 0 size
+            (λ k h x. (top-looks k d h).sent) (b.wired d) (b.gave d);
         fits = b.fits;
         got_is = b.got_is ∙ sym t.taken_same;
       }
 
   -- both ends of the top link know each place and each message of it
-  pub top-looked : ready old.top ≤ ready new.top → room_of out ≤ spare out + ready new.top → TopLooks old new
+  pub top-looked : ready old.top ≤ ready new.top → room_of out ≤ spare out + ready new.top
+      → TopLooks old new
   top-looked more all =
-      let at : (k : ℕ) (d : Node) → k + 1 ≡ length old.nodes.items → out ≡ (get_or new.nodes.items k d).outlet =
+      let at : (k : ℕ) (d : Node) → k + 1 ≡ length old.nodes.items
+      → out ≡ (get_or new.nodes.items k d).outlet =
       λ k d last.
       let same : t.root ≡ k = omega (arith, last, t.root_is) in
       subst (λ (z : ℕ). out ≡ (get_or new.nodes.items z d).outlet) same
-      (sym (ap (λ (ns : List Node). (get_or ns t.root d).outlet) (t.nodes d) ∙ ap (λ (n : Node). n.outlet) (get_or-set_same old.nodes.items t.root (with_outlet (get_or old.nodes.items t.root d) out) d top-there))) in
+      (sym (ap (λ (ns : List Node). (get_or ns t.root d).outlet) (t.nodes d)
+      ∙ ap (λ (n : Node). n.outlet) (get_or-set_same old.nodes.items t.root
+      (with_outlet (get_or old.nodes.items t.root d) out) d top-there))) in
       record {
         count = top-count;
         looks = top-looks;
         taken_same = t.taken_same;
         more_known = more;
         waits = λ k d last. t.waits ∙ ap (λ (o : Outlet Message). sent o) (at k d last);
-        all_known = λ k d last. subst (λ (o : Outlet Message). room_of o ≤ spare o + ready new.top) (at k d last) all;
+        all_known = λ k d last. subst (λ (o : Outlet Message). room_of o ≤ spare o + ready new.top)
+            (at k d last) all;
       }
 
 -- a message was taken from the top
@@ -355,7 +504,9 @@ pub record TopTook (old new : PlanBox) (m : Message) : Type 0 where
 pub took-sound : (old new : PlanBox) (m : Message) → TopTook old new m → IsSound old → IsSound new
 took-sound old new m t s =
     let order : taken new.top ++ known new.top ≡ taken old.top ++ known old.top =
-    ap (λ (xs : List Message). xs ++ known new.top) t.taken_more ∙ append_assoc (taken old.top) (m ∷ []) (known new.top) ∙ ap (λ (xs : List Message). taken old.top ++ xs) (sym t.known_less) in
+    ap (λ (xs : List Message). xs ++ known new.top) t.taken_more
+    ∙ append_assoc (taken old.top) (m ∷ []) (known new.top)
+    ∙ ap (λ (xs : List Message). taken old.top ++ xs) (sym t.known_less) in
     record {
       linked = subst (λ v. IsLinked v.items) (sym t.nodes) s.linked;
       root = s.root;
@@ -364,37 +515,64 @@ took-sound old new m t s =
           let top = s.top d in
           subst (λ v. EndsHold (get_or v.items s.root d).outlet new.top) (sym t.nodes)
           (record {
-            ends = ends_keep (get_or old.nodes.items s.root d).outlet (get_or old.nodes.items s.root d).outlet old.top new.top (same_outlet_self (get_or old.nodes.items s.root d).outlet) t.same_link top.ends;
+            ends = ends_keep (get_or old.nodes.items s.root d).outlet
+                (get_or old.nodes.items s.root d).outlet old.top new.top
+                (same_outlet_self (get_or old.nodes.items s.root d).outlet) t.same_link top.ends;
             rest = top.rest;
             in_order = top.in_order ∙ ap (λ (xs : List Message). xs ++ top.rest) (sym order);
           });
-      leaves = λ k d h. subst (λ v. (get_or new.leaves.items k d).node < length v.items) (sym t.nodes) (subst (λ v. k < length v.items → (get_or v.items k d).node < length old.nodes.items) (sym t.leaves) (λ l. s.leaves k d l) h);
+      leaves = λ k d h. subst (λ v. (get_or new.leaves.items k d).node < length v.items)
+          (sym t.nodes) (subst (λ v. k < length v.items → (get_or v.items k d).node < length
+          old.nodes.items) (sym t.leaves) (λ l. s.leaves k d l) h);
     }
 
-pub took-stands : (old new : PlanBox) (m : Message) → TopTook old new m → (schemas : List (List Kind)) (plan : Plan) (given : Lists) (got : List Message) → BoxStands old schemas plan given got → BoxStands new schemas plan given (got ++ m ∷ [])
+pub took-stands : (old new : PlanBox) (m : Message) → TopTook old new m
+    → (schemas : List (List Kind)) (plan : Plan) (given : Lists) (got : List Message)
+    → BoxStands old schemas plan given got → BoxStands new schemas plan given (got ++ m ∷ [])
 took-stands old new m t schemas plan given got b = record {
   going = t.failed ∙ b.going;
   count = ap (λ v. length v.items) t.nodes ∙ b.count;
-  wired = subst (λ v. (d : Node) → IsWired (λ k. get_or v.items k d) (shape_of schemas plan) 0) (sym t.nodes) b.wired;
+  wired = subst (λ v. (d : Node) → IsWired (λ k. get_or v.items k d) (shape_of schemas plan) 0)
+      (sym t.nodes) b.wired;
   proper = b.proper;
-  stands = subst (λ v. (k : ℕ) (d : Node) → k < length v.items → NodeStands (get_or v.items k d)) (sym t.nodes) b.stands;
+  stands = subst (λ v. (k : ℕ) (d : Node) → k < length v.items → NodeStands (get_or v.items k d))
+      (sym t.nodes) b.stands;
   leaves_are = ap (λ v. v.items) t.leaves ∙ b.leaves_are;
-  gave = subst (λ v. (d : Node) → LeavesGave (λ k. get_or v.items k d) (shape_of schemas plan) 0 0 given) (sym t.nodes) b.gave;
+  gave = subst (λ v. (d : Node) → LeavesGave (λ k. get_or v.items k d) (shape_of schemas plan) 0 0
+      given) (sym t.nodes) b.gave;
   fits = b.fits;
   got_is = ap (λ (xs : List Message). xs ++ m ∷ []) b.got_is ∙ sym t.taken_more;
 }
 
 -- whether a message was taken from the top or none
-pub take-sound : (old new : PlanBox) (r : Option Message) → IfSome r (λ m. taken new.top ≡ taken old.top ++ m ∷ []) → IfSome r (λ m. known old.top ≡ m ∷ known new.top) → IfNone r ((new.top ≡ old.top) × (length (known old.top) ≡ 0))
-    → SameInlet old.top new.top → new.nodes ≡ old.nodes → new.leaves ≡ old.leaves → new.failed ≡ old.failed → IsSound old → IsSound new
+pub take-sound : (old new : PlanBox) (r : Option Message) → IfSome r
+    (λ m. taken new.top ≡ taken old.top ++ m ∷ []) → IfSome r
+    (λ m. known old.top ≡ m ∷ known new.top) → IfNone r ((new.top ≡ old.top)
+    × (length (known old.top) ≡ 0))
+    → SameInlet old.top new.top → new.nodes ≡ old.nodes → new.leaves ≡ old.leaves
+    → new.failed ≡ old.failed → IsSound old → IsSound new
 take-sound old new (Some m) more less none same nodes leaves failed s =
-    took-sound old new m (record { nodes = nodes; leaves = leaves; failed = failed; same_link = same; taken_more = more; known_less = less }) s
+    took-sound old new m (record {
+      nodes = nodes;
+      leaves = leaves;
+      failed = failed;
+      same_link =
+          same;
+      taken_more = more;
+      known_less = less;
+    }) s
 take-sound old new None more less none same nodes leaves failed s =
     renews-sound old new (record {
       count = ap (λ v. length v.items) nodes;
       linked = subst (λ v. IsLinked v.items) (sym nodes) s.linked;
       top = none.0;
       leaves = ap (λ v. v.items) leaves;
-      outlets = λ k d h. subst (λ v. SameOutlet (get_or old.nodes.items k d).outlet (get_or v.items k d).outlet) (sym nodes) (same_outlet_self (get_or old.nodes.items k d).outlet);
-      puts = λ k d h. ([], ap (λ v. sent (get_or v.items k d).outlet) nodes ∙ sym (append-nil (sent (get_or old.nodes.items k d).outlet)));
+      outlets = λ k d h. subst (λ v. SameOutlet (get_or old.nodes.items k d).outlet
+          (get_or v.items k d).outlet) (sym nodes) (same_outlet_self
+          (get_or old.nodes.items k d).outlet);
+      puts = λ k d h. (
+        [],
+        ap (λ v. sent (get_or v.items k d).outlet) nodes
+            ∙ sym (append-nil (sent (get_or old.nodes.items k d).outlet)),
+      );
     }) s

@@ -1,5 +1,7 @@
 -- What comes out at the top of a plan at work in which nothing is on its way.
-use Rattle.std.proofs.Common.{◌≡◌, ℕ, zero, suc, ◌+◌, ◌≤◌, ◌<◌, List, [], ◌∷◌, ◌++◌, length, get_or, Option, Some, None, inl, inr, refl, sym, ◌∙◌, ap, subst, arith, append-nil}
+use Rattle.std.proofs.Common.{◌≡◌, ℕ, zero, suc, ◌+◌, ◌≤◌, ◌<◌, List, [], ◌∷◌, ◌++◌, length, get_or}
+use Rattle.std.proofs.Common.{Option, Some, None, inl, inr, refl, sym, ◌∙◌, ap, subst, arith}
+use Rattle.std.proofs.Common.{append-nil}
 use Rattle.std.specs.List.{sum_by}
 use Rattle.std.proofs.lemmas.Bool.{cases_lt}
 use Rattle.std.proofs.lemmas.List.Sums.{sum_by-cons}
@@ -15,8 +17,10 @@ use Rattle.pipes_box.specs.declared.node.Node.{Node}
 use Rattle.pipes_box.specs.declared.plan_box.PlanBox.{PlanBox}
 use Rattle.pipes_box.specs.Operators.{task_of, held_by}
 use Rattle.pipes_box.specs.Passing.{Passes}
-use Rattle.pipes_box.specs.Nodes.{IsCounted, PortStands, EmitsIn, NodeStands, task_in, ports_of, kinds_at, held_in}
-use Rattle.pipes_box.specs.Shapes.{Shape, Leaf, One, Two, shape_of, gives_of, node_count, leaf_count, GivenFits, Answers, IsProper}
+use Rattle.pipes_box.specs.Nodes.{IsCounted, PortStands, EmitsIn, NodeStands, task_in, ports_of}
+use Rattle.pipes_box.specs.Nodes.{kinds_at, held_in}
+use Rattle.pipes_box.specs.Shapes.{Shape, Leaf, One, Two, shape_of, gives_of, node_count}
+use Rattle.pipes_box.specs.Shapes.{leaf_count, GivenFits, Answers, IsProper}
 use Rattle.pipes_box.specs.Prompt.{AllEnded, IsPrompt}
 use Rattle.pipes_box.specs.Networks.{IsLinked, IsWired, LeavesGave, ChildAt, root_of}
 use Rattle.pipes_box.specs.Boxes.{IsSound, BoxStands, IsQuiet, IsStill, all_held}
@@ -29,24 +33,33 @@ use Rattle.pipes_box.proofs.Rounds.{no-task}
 use Rattle.pipes_box.proofs.Prompting.{prompt-leaf, prompt-one, prompt-two, ended-one, ended-two}
 
 -- a node with a task, with which nothing is pending: its operator owes what it put
-put-lawful : (o : Option PlanOperator) (task : Task) (passed : Lists) (out pending : List Message) → pending ≡ [] → task_in o ≡ Some task
+put-lawful : (o : Option PlanOperator) (task : Task) (passed : Lists) (out pending : List Message)
+    → pending ≡ [] → task_in o ≡ Some task
     → EmitsIn o passed out pending → Lawful task passed out (held_in o)
 put-lawful None task passed out pending none t e = absurd (none-some task t) where
   none-some : (task : Task) → ◌≡◌ {A = Option Task} None (Some task) → ⊥
   none-some task h = cc
 put-lawful (Some op) task passed out pending none t e =
     let same : task_of op ≡ task = some-same (task_of op) task t in
-    let whole : out ++ pending ≡ out = ap (λ (xs : List Message). out ++ xs) none ∙ append-nil out in
+    let whole : out ++ pending ≡ out = ap (λ (xs : List Message). out ++ xs) none
+    ∙ append-nil out in
     subst (λ (xs : List Message). Lawful task passed xs (held_by op)) whole
-    (subst (λ (x : Task). Lawful x passed (out ++ pending) (held_by op)) same (emits-lawful op passed (out ++ pending) e)) where
+    (subst (λ (x : Task). Lawful x passed (out ++ pending) (held_by op)) same
+    (emits-lawful op passed (out ++ pending) e)) where
       some-same : (x y : Task) → ◌≡◌ {A = Option Task} (Some x) (Some y) → x ≡ y
       some-same x y h = cc
 
 -- so many numbers of nothing
-sum-none : {X : Type 0} (f : X → ℕ) (xs : List X) → ((k : ℕ) (d : X) → k < length xs → f (get_or xs k d) ≡ 0) → sum_by f xs ≡ 0
+sum-none : {X : Type 0} (f : X → ℕ) (xs : List X) → ((k : ℕ) (d : X) → k < length xs
+    → f (get_or xs k d) ≡ 0) → sum_by f xs ≡ 0
 sum-none f [] none = refl
 sum-none f (x ∷ xs) none =
-    omega (arith, sum_by-cons f x xs, none 0 x (omega arith), sum-none f xs (λ k d h. none (suc k) d (omega (arith, h))))
+    omega (
+      arith,
+      sum_by-cons f x xs,
+      none 0 x (omega arith),
+      sum-none f xs (λ k d h. none (suc k) d (omega (arith, h))),
+    )
 
 -- all that a child put has passed at the port, and nothing is pending with it
 pub record HasPassed (child : Node) (passed : List Message) : Type 0 where
@@ -57,52 +70,74 @@ pub record HasPassed (child : Node) (passed : List Message) : Type 0 where
 -- operators keep nothing.
 pub record Caught (node : ℕ → Node) (s : Shape) (i n : ℕ) (given : Lists) : Type 0 where
   pub prompt : IsPrompt s n given (sent (node (root_of s i)).outlet)
-  pub keeps_none : AllEnded s n given → (k : ℕ) → i ≤ k → k < i + node_count s → held_in (node k).operator ≡ 0
+  pub keeps_none : AllEnded s n given → (k : ℕ) → i ≤ k → k < i + node_count s
+      → held_in (node k).operator ≡ 0
 
-module _ (nodes : List Node) (d : Node) (linked : IsLinked nodes) (stands : (k : ℕ) → k < length nodes → NodeStands (get_or nodes k d))
-    (still : (k i : ℕ) (e : Port) → k < length nodes → i < length (get_or nodes k d).ports.items → IsQuiet (get_or nodes (get_or (get_or nodes k d).ports.items i e).child d) (get_or (get_or nodes k d).ports.items i e).inlet) where
+module _ (nodes : List Node) (d : Node) (linked : IsLinked nodes) (stands : (k : ℕ)
+    → k < length nodes → NodeStands (get_or nodes k d))
+    (still : (k i : ℕ) (e : Port) → k < length nodes → i < length (get_or nodes k d).ports.items
+    → IsQuiet (get_or nodes (get_or (get_or nodes k d).ports.items i e).child d)
+    (get_or (get_or nodes k d).ports.items i e).inlet) where
   abbrev node : ℕ → Node
   node k = get_or nodes k d
 
-  at-port : (a : Shape) (n : ℕ) (given : Lists) (j port child : ℕ) (task : Task) (small : j < length nodes) → task_in (node j).operator ≡ Some task → port < task.ports → task.takes port ≡ gives_of a → ChildAt (node j) port child
-      → Answers a n given (sent (node child).outlet) → HasPassed (node child) ((stands j small).passed port)
+  at-port : (a : Shape) (n : ℕ) (given : Lists) (j port child : ℕ) (task : Task)
+      (small : j < length nodes) → task_in (node j).operator ≡ Some task → port < task.ports
+      → task.takes port ≡ gives_of a → ChildAt (node j) port child
+      → Answers a n given (sent (node child).outlet) → HasPassed (node child)
+      ((stands j small).passed port)
   at-port a n given j port child task small is-task in-range kinds child-is answers =
-      let count : task.ports ≡ length (node j).ports.items = sym (ap ports_of is-task) ∙ (linked.counted j d small).count in
+      let count : task.ports ≡ length (node j).ports.items = sym (ap ports_of is-task)
+      ∙ (linked.counted j d small).count in
       let there : port < length (node j).ports.items = omega (arith, in-range, count) in
       let e : Port = some-port (node j).ports.items (omega (arith, there)) in
       let p : Port = get_or (node j).ports.items port e in
-      let quiet : IsQuiet (node child) p.inlet = subst (λ (k : ℕ). IsQuiet (node k) p.inlet) (child-is e) (still j port e small there) in
-      let same : p.schema ≡ gives_of a = sym ((stands j small).kinds port e there) ∙ ap (λ (o : Option Task). kinds_at o port) is-task ∙ kinds in
-      let got : Answers a n given (taken p.inlet) = subst (Answers a n given) (sym quiet.all_taken) answers in
+      let quiet : IsQuiet (node child) p.inlet = subst (λ (k : ℕ). IsQuiet (node k) p.inlet)
+      (child-is e) (still j port e small there) in
+      let same : p.schema ≡ gives_of a = sym ((stands j small).kinds port e there)
+      ∙ ap (λ (o : Option Task). kinds_at o port) is-task ∙ kinds in
+      let got : Answers a n given (taken p.inlet) = subst (Answers a n given) (sym quiet.all_taken)
+      answers in
       record {
-        all = passes-all (gives_of a) start_of_list (taken p.inlet) ((stands j small).passed port) got.valid got.fits
-            (subst (λ (ks : List Kind). Passes ks start_of_list (taken p.inlet) ((stands j small).passed port)) same ((stands j small).ports port e there).passes)
+        all = passes-all (gives_of a) start_of_list (taken p.inlet) ((stands j small).passed port)
+            got.valid got.fits
+            (subst (λ (ks : List Kind). Passes ks start_of_list (taken p.inlet)
+            ((stands j small).passed port)) same ((stands j small).ports port e there).passes)
             ∙ quiet.all_taken;
         nothing = quiet.nothing_pending;
       }
 
-  pub caught : (s : Shape) (i n : ℕ) (given : Lists) → i + node_count s ≤ length nodes → IsProper s → IsWired node s i → LeavesGave node s i n given → GivenFits s n given
+  pub caught : (s : Shape) (i n : ℕ) (given : Lists) → i + node_count s ≤ length nodes → IsProper s
+      → IsWired node s i → LeavesGave node s i n given → GivenFits s n given
       → (node (root_of s i)).pending.items ≡ [] → Caught node s i n given
   caught (Leaf source kinds) i n given small proper wired gave fits none = record {
     prompt = subst (IsPrompt (Leaf source kinds) n given) gave (prompt-leaf source kinds n given);
     keeps_none = λ e k low high.
         let at : i ≡ k = omega (arith, low, high) in
-        subst (λ (z : ℕ). held_in (node z).operator ≡ 0) at (ap held_in (no-task (node i).operator wired));
+        subst (λ (z : ℕ). held_in (node z).operator ≡ 0) at
+        (ap held_in (no-task (node i).operator wired));
   }
   caught (One task a) i n given small proper wired gave fits none =
       let j : ℕ = i + node_count a in
       let there : j < length nodes = omega (arith, small) in
-      let answers = network nodes d linked stands a i n given (omega (arith, small)) proper.3 wired.0 gave fits in
+      let answers = network nodes d linked stands a i n given (omega (arith, small)) proper.3
+      wired.0 gave fits in
       let s = stands j there in
-      let p = at-port a n given j 0 (root_of a i) task there wired.1 (omega (arith, proper.1)) proper.2 wired.2 answers in
+      let p = at-port a n given j 0 (root_of a i) task there wired.1 (omega (arith, proper.1))
+      proper.2 wired.2 answers in
       let c = caught a i n given (omega (arith, small)) proper.3 wired.0 gave fits p.nothing in
-      let l = put-lawful (node j).operator task s.passed (sent (node j).outlet) (node j).pending.items none wired.1 s.emits in
-      let prompt : IsPrompt a n given (s.passed 0) = subst (IsPrompt a n given) (sym p.all) c.prompt in
+      let l = put-lawful (node j).operator task s.passed (sent (node j).outlet)
+      (node j).pending.items none wired.1 s.emits in
+      let prompt : IsPrompt a n given (s.passed 0) = subst (IsPrompt a n given)
+      (sym p.all) c.prompt in
       record {
-        prompt = prompt-one task a n (held_in (node j).operator) given s.passed (sent (node j).outlet) proper.1 (subst (Answers a n given) (sym p.all) answers) prompt l;
+        prompt = prompt-one task a n (held_in (node j).operator) given s.passed
+            (sent (node j).outlet) proper.1 (subst (Answers a n given) (sym p.all) answers) prompt
+            l;
         keeps_none = λ e k low high.
             elim (place k j) [
-              | inl x ↦ subst (λ (z : ℕ). held_in (node z).operator ≡ 0) (sym x) (l.ends (ended-one task.ports s.passed proper.1 (prompt.ends e))).1
+              | inl x ↦ subst (λ (z : ℕ). held_in (node z).operator ≡ 0) (sym x)
+                  (l.ends (ended-one task.ports s.passed proper.1 (prompt.ends e))).1
               | inr x ↦ c.keeps_none e k low (omega (arith, high, x))
             ];
       }
@@ -110,22 +145,34 @@ module _ (nodes : List Node) (d : Node) (linked : IsLinked nodes) (stands : (k :
       let j : ℕ = i + (node_count a + node_count b) in
       let there : j < length nodes = omega (arith, small) in
       let m : ℕ = n + leaf_count a in
-      let left = network nodes d linked stands a i n given (omega (arith, small)) proper.4 wired.0 gave.0 fits.0 in
-      let right = network nodes d linked stands b (i + node_count a) m given (omega (arith, small)) proper.5 wired.1 gave.1 fits.1 in
+      let left = network nodes d linked stands a i n given (omega (arith, small)) proper.4 wired.0
+      gave.0 fits.0 in
+      let right = network nodes d linked stands b (i + node_count a) m given (omega (arith, small))
+      proper.5 wired.1 gave.1 fits.1 in
       let s = stands j there in
-      let p = at-port a n given j 0 (root_of a i) task there wired.2 (omega (arith, proper.1)) proper.2 wired.3 left in
-      let q = at-port b m given j 1 (root_of b (i + node_count a)) task there wired.2 (omega (arith, proper.1)) proper.3 wired.4 right in
+      let p = at-port a n given j 0 (root_of a i) task there wired.2 (omega (arith, proper.1))
+      proper.2 wired.3 left in
+      let q = at-port b m given j 1 (root_of b (i + node_count a)) task there wired.2
+      (omega (arith, proper.1)) proper.3 wired.4 right in
       let c = caught a i n given (omega (arith, small)) proper.4 wired.0 gave.0 fits.0 p.nothing in
-      let c' = caught b (i + node_count a) m given (omega (arith, small)) proper.5 wired.1 gave.1 fits.1 q.nothing in
-      let l = put-lawful (node j).operator task s.passed (sent (node j).outlet) (node j).pending.items none wired.2 s.emits in
-      let prompt : IsPrompt a n given (s.passed 0) = subst (IsPrompt a n given) (sym p.all) c.prompt in
-      let prompt' : IsPrompt b m given (s.passed 1) = subst (IsPrompt b m given) (sym q.all) c'.prompt in
+      let c' = caught b (i + node_count a) m given (omega (arith, small)) proper.5 wired.1 gave.1
+      fits.1 q.nothing in
+      let l = put-lawful (node j).operator task s.passed (sent (node j).outlet)
+      (node j).pending.items none wired.2 s.emits in
+      let prompt : IsPrompt a n given (s.passed 0) = subst (IsPrompt a n given)
+      (sym p.all) c.prompt in
+      let prompt' : IsPrompt b m given (s.passed 1) = subst (IsPrompt b m given)
+      (sym q.all) c'.prompt in
       record {
-        prompt = prompt-two task a b n (held_in (node j).operator) given s.passed (sent (node j).outlet) proper.1
-            (subst (Answers a n given) (sym p.all) left) (subst (Answers b m given) (sym q.all) right) prompt prompt' l;
+        prompt = prompt-two task a b n (held_in (node j).operator) given s.passed
+            (sent (node j).outlet) proper.1
+            (subst (Answers a n given) (sym p.all) left) (subst (Answers b m given)
+            (sym q.all) right) prompt prompt' l;
         keeps_none = λ e k low high.
             elim (place k j) [
-              | inl x ↦ subst (λ (z : ℕ). held_in (node z).operator ≡ 0) (sym x) (l.ends (ended-two task.ports s.passed proper.1 (prompt.ends e.0) (prompt'.ends e.1))).1
+              | inl x ↦ subst (λ (z : ℕ). held_in (node z).operator ≡ 0) (sym x)
+                  (l.ends (ended-two task.ports s.passed proper.1 (prompt.ends e.0)
+                  (prompt'.ends e.1))).1
               | inr x ↦ elim (cases_lt k (i + node_count a)) [
                 | inl y ↦ c.keeps_none e.0 k low y
                 | inr y ↦ c'.keeps_none e.1 k y (omega (arith, high, x))
@@ -133,7 +180,9 @@ module _ (nodes : List Node) (d : Node) (linked : IsLinked nodes) (stands : (k :
             ];
       }
 
-module _ (b : PlanBox) (schemas : List (List Kind)) (plan : Plan) (given : Lists) (got : List Message) (sound : IsSound b) (still : IsStill b) (s : BoxStands b schemas plan given got) where
+module _ (b : PlanBox) (schemas : List (List Kind)) (plan : Plan) (given : Lists)
+    (got : List Message) (sound : IsSound b) (still : IsStill b)
+    (s : BoxStands b schemas plan given got) where
   abbrev shape : Shape
   shape = shape_of schemas plan
 
@@ -144,15 +193,19 @@ module _ (b : PlanBox) (schemas : List (List Kind)) (plan : Plan) (given : Lists
   last = omega (arith, s.count, root-last shape 0)
 
   whole : Caught (λ k. get_or b.nodes.items k first) shape 0 0 given
-  whole = caught b.nodes.items first sound.linked (λ k h. s.stands k first h) (λ k i e h l. still.links k first i e h l) shape 0 0 given (omega (arith, s.count)) s.proper (s.wired first) (s.gave first) s.fits
+  whole = caught b.nodes.items first sound.linked (λ k h. s.stands k first h)
+      (λ k i e h l. still.links k first i e h l) shape 0 0 given (omega (arith, s.count)) s.proper
+      (s.wired first) (s.gave first) s.fits
       (still.top (root_of shape 0) first last).nothing_pending
 
   -- a box in which nothing is on its way has answered as far as it can
   pub still-prompt : IsPrompt shape 0 given got
-  still-prompt = subst (IsPrompt shape 0 given) (sym (s.got_is ∙ (still.top (root_of shape 0) first last).all_taken)) whole.prompt
+  still-prompt = subst (IsPrompt shape 0 given)
+      (sym (s.got_is ∙ (still.top (root_of shape 0) first last).all_taken)) whole.prompt
 
   -- and after the end of each leaf it keeps nothing
   pub still-holds_none : AllEnded shape 0 given → all_held b ≡ 0
   still-holds_none e =
       sum-none (λ (n : Node). held_in n.operator) b.nodes.items
-      (λ k d h. subst (λ (n : Node). held_in n.operator ≡ 0) (get-any b.nodes.items k first d h) (whole.keeps_none e k (omega arith) (omega (arith, h, s.count))))
+      (λ k d h. subst (λ (n : Node). held_in n.operator ≡ 0) (get-any b.nodes.items k first d h)
+      (whole.keeps_none e k (omega arith) (omega (arith, h, s.count))))

@@ -1,5 +1,6 @@
 -- A box: a plan at work, with what was given at its leaves and what came out at its top.
-use Rattle.std.specs.Prelude.{◌≡◌, ℕ, ◌+◌, ◌-◌, ◌^◌, ◌<◌, min, Bool, false, List, [], ◌∷◌, ◌++◌, length, get_or}
+use Rattle.std.specs.Prelude.{◌≡◌, ℕ, ◌+◌, ◌-◌, ◌^◌, ◌<◌, min, Bool, false, List, [], ◌∷◌, ◌++◌}
+use Rattle.std.specs.Prelude.{length, get_or}
 use Rattle.std.specs.List.{sum_by}
 use Rattle.pipes_tuple.specs.declared.value.Kind.{Kind}
 use Rattle.pipes_stream.specs.declared.message.Message.{Message}
@@ -30,7 +31,8 @@ all_held b = sum_by (λ n. held_in n.operator) b.nodes.items
 
 -- The box is the plan at work, one node for each of its nodes: these lists were given at its
 -- leaves, and this one was taken at its top.
-pub record BoxStands (b : PlanBox) (schemas : List (List Kind)) (plan : Plan) (given : Lists) (got : List Message) : Type 0 where
+pub record BoxStands (b : PlanBox) (schemas : List (List Kind)) (plan : Plan) (given : Lists)
+    (got : List Message) : Type 0 where
   pub going : b.failed ≡ false
   pub count : length b.nodes.items ≡ node_count (shape_of schemas plan)
   pub wired : (d : Node) → IsWired (λ k. get_or b.nodes.items k d) (shape_of schemas plan) 0
@@ -45,11 +47,14 @@ pub record BoxStands (b : PlanBox) (schemas : List (List Kind)) (plan : Plan) (g
 
 -- the lists for which the box stood are those for which it stands now
 abbrev pub StaysAsBefore : PlanBox → PlanBox → Type 0
-StaysAsBefore old new = (schemas : List (List Kind)) (plan : Plan) (given : Lists) (got : List Message) → BoxStands old schemas plan given got → BoxStands new schemas plan given got
+StaysAsBefore old new = (schemas : List (List Kind)) (plan : Plan) (given : Lists)
+    (got : List Message) → BoxStands old schemas plan given got
+    → BoxStands new schemas plan given got
 
 -- the message was taken at the top
 abbrev pub TakesOne : PlanBox → PlanBox → Message → Type 0
-TakesOne old new m = (schemas : List (List Kind)) (plan : Plan) (given : Lists) (got : List Message) → BoxStands old schemas plan given got → BoxStands new schemas plan given (got ++ m ∷ [])
+TakesOne old new m = (schemas : List (List Kind)) (plan : Plan) (given : Lists) (got : List Message)
+    → BoxStands old schemas plan given got → BoxStands new schemas plan given (got ++ m ∷ [])
 
 -- The message was given at the leaf. With it, what was given there has to stay valid, and its
 -- tuples have to fit.

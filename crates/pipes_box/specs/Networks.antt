@@ -1,6 +1,7 @@
 -- A plan at work: which nodes it has, and how they are linked. Children stand before their parents
 -- in the list of nodes, and the root last.
-use Rattle.std.specs.Prelude.{◌≡◌, ℕ, ◌+◌, ◌<◌, ◌≤◌, ◌⊎◌, List, [], ◌∷◌, ◌++◌, length, get_or, Some, None}
+use Rattle.std.specs.Prelude.{◌≡◌, ℕ, ◌+◌, ◌<◌, ◌≤◌, ◌⊎◌, List, [], ◌∷◌, ◌++◌, length, get_or, Some}
+use Rattle.std.specs.Prelude.{None}
 use Rattle.pipes_stream.specs.declared.message.Message.{Message}
 use Rattle.pipes_stream.specs.Lawful.{Lists, Task}
 use Rattle.pipes_link.specs.declared.outlet.Outlet.{Outlet}
@@ -30,7 +31,8 @@ pub record IsLinked (nodes : List Node) : Type 0 where
       → (get_or (get_or nodes k d).ports.items i e).child < k
   pub links : (k : ℕ) (d : Node) (i : ℕ) (e : Port) → k < length nodes
       → i < length (get_or nodes k d).ports.items
-      → LinkHolds (get_or nodes (get_or (get_or nodes k d).ports.items i e).child d).outlet (get_or (get_or nodes k d).ports.items i e)
+      → LinkHolds (get_or nodes (get_or (get_or nodes k d).ports.items i e).child d).outlet
+      (get_or (get_or nodes k d).ports.items i e)
 
 -- the place of the plan's root, its nodes beginning at i
 abbrev pub root_of : Shape → ℕ → ℕ
@@ -45,17 +47,22 @@ ChildAt n port child = (e : Port) → (get_or n.ports.items port e).child ≡ ch
 -- children
 abbrev pub IsWired : (ℕ → Node) → Shape → ℕ → Type 0
 IsWired node (Leaf source kinds) i = task_in (node i).operator ≡ None
-IsWired node (One task a) i = IsWired node a i × (task_in (node (i + node_count a)).operator ≡ Some task) × ChildAt (node (i + node_count a)) 0 (root_of a i)
+IsWired node (One task a) i = IsWired node a i
+    × (task_in (node (i + node_count a)).operator ≡ Some task)
+    × ChildAt (node (i + node_count a)) 0 (root_of a i)
 IsWired node (Two task a b) i =
-    IsWired node a i × IsWired node b (i + node_count a) × (task_in (node (i + (node_count a + node_count b))).operator ≡ Some task)
-    × ChildAt (node (i + (node_count a + node_count b))) 0 (root_of a i) × ChildAt (node (i + (node_count a + node_count b))) 1 (root_of b (i + node_count a))
+    IsWired node a i × IsWired node b (i + node_count a)
+    × (task_in (node (i + (node_count a + node_count b))).operator ≡ Some task)
+    × ChildAt (node (i + (node_count a + node_count b))) 0 (root_of a i)
+    × ChildAt (node (i + (node_count a + node_count b))) 1 (root_of b (i + node_count a))
 
 -- what was given at the leaves, which are numbered from n on, is what was put into the outlets of
 -- their nodes
 abbrev pub LeavesGave : (ℕ → Node) → Shape → ℕ → ℕ → Lists → Type 0
 LeavesGave node (Leaf source kinds) i n given = given n ≡ sent (node i).outlet
 LeavesGave node (One task a) i n given = LeavesGave node a i n given
-LeavesGave node (Two task a b) i n given = LeavesGave node a i n given × LeavesGave node b (i + node_count a) (n + leaf_count a) given
+LeavesGave node (Two task a b) i n given = LeavesGave node a i n given
+    × LeavesGave node b (i + node_count a) (n + leaf_count a) given
 
 -- both ends know each place and each message of the link
 pub record SettledLink (outlet : Outlet Message) (p : Port) : Type 0 where
@@ -70,7 +77,8 @@ pub record PortSettled (old new : List Node) (parent port : ℕ) : Type 0 where
       → i < length (get_or old k d).ports.items → (k ≡ parent → i ≡ port → ⊥)
       → get_or (get_or new k d).ports.items i e ≡ get_or (get_or old k d).ports.items i e
   pub settled : (d : Node) (e : Port)
-      → SettledLink (get_or new (get_or (get_or old parent d).ports.items port e).child d).outlet (get_or (get_or new parent d).ports.items port e)
+      → SettledLink (get_or new (get_or (get_or old parent d).ports.items port e).child d).outlet
+      (get_or (get_or new parent d).ports.items port e)
 
 -- the links of the ports before this one were settled: those of earlier nodes, and this node's
 -- earlier ports
@@ -80,7 +88,8 @@ pub record Settles (old new : List Node) (parent port : ℕ) : Type 0 where
   pub linked : IsLinked new
   pub settled : (k : ℕ) (d : Node) (i : ℕ) (e : Port) → k < length new
       → i < length (get_or new k d).ports.items → (k < parent) ⊎ ((k ≡ parent) × (i < port))
-      → SettledLink (get_or new (get_or (get_or new k d).ports.items i e).child d).outlet (get_or (get_or new k d).ports.items i e)
+      → SettledLink (get_or new (get_or (get_or new k d).ports.items i e).child d).outlet
+      (get_or (get_or new k d).ports.items i e)
 
 -- the leaves of the plan whose nodes begin at i, in preorder
 abbrev pub leaves_of : Shape → ℕ → List PlanLeaf

@@ -1,5 +1,6 @@
 -- What a node stands for, and what a turn does.
-use Rattle.std.specs.Prelude.{◌≡◌, ℕ, ◌+◌, ◌-◌, ◌^◌, min, ◌<◌, ◌≤◌, true, false, List, [], ◌∷◌, ◌++◌, length, get_or, Option, Some, None, Bool}
+use Rattle.std.specs.Prelude.{◌≡◌, ℕ, ◌+◌, ◌-◌, ◌^◌, min, ◌<◌, ◌≤◌, true, false, List, [], ◌∷◌}
+use Rattle.std.specs.Prelude.{◌++◌, length, get_or, Option, Some, None, Bool}
 use Rattle.std.specs.Bool.{OnTrue, OnFalse}
 use Rattle.std.specs.List.{sum_by}
 use Rattle.pipes_tuple.specs.declared.value.Kind.{Kind}
@@ -119,7 +120,8 @@ EmitsMore old new port m =
 
 -- nothing is known to wait at the port
 abbrev pub IsDrained : Node → ℕ → Type 0
-IsDrained n port = (d : Port) → port < length n.ports.items → ready (get_or n.ports.items port d).inlet ≡ 0
+IsDrained n port = (d : Port) → port < length n.ports.items → ready
+    (get_or n.ports.items port d).inlet ≡ 0
 
 -- What a turn does where no memory is refused: it takes all that is known to wait, and puts what is
 -- pending while there is room.

@@ -1,5 +1,6 @@
 -- Only private functions need these: parts of a plan as they are built.
-use Rattle.std.specs.Prelude.{◌≡◌, ℕ, ◌+◌, ◌<◌, ◌≤◌, List, [], ◌∷◌, ◌++◌, length, get_or, Option, Some, None, ◌⊎◌}
+use Rattle.std.specs.Prelude.{◌≡◌, ℕ, ◌+◌, ◌<◌, ◌≤◌, List, [], ◌∷◌, ◌++◌, length, get_or, Option}
+use Rattle.std.specs.Prelude.{Some, None, ◌⊎◌}
 use Rattle.pipes_tuple.specs.declared.value.Kind.{Kind}
 use Rattle.pipes_stream.specs.declared.message.Message.{Message}
 use Rattle.pipes_stream.specs.Lists.{start_of_list}
@@ -26,7 +27,8 @@ pub record IsPortOf (part : Part) (p : Port) : Type 0 where
   pub child : p.child ≡ part.root
 
 -- a node was added, from which nothing has come
-pub record Adds (old new : List Node) (operator : Option PlanOperator) (ports : List Port) (inlet : Inlet Message) : Type 0 where
+pub record Adds (old new : List Node) (operator : Option PlanOperator) (ports : List Port)
+    (inlet : Inlet Message) : Type 0 where
   pub node : Node
   pub added : new ≡ old ++ node ∷ []
   pub operator_is : node.operator ≡ operator
@@ -44,18 +46,20 @@ PortsOver (part ∷ parts) (p ∷ ps) = IsPortOf part p × PortsOver parts ps
 PortsOver _ _ = ⊥
 
 -- a node over parts was added
-pub record AddsOver (old new : List Node) (operator : PlanOperator) (parts : List Part) (inlet : Inlet Message) : Type 0 where
+pub record AddsOver (old new : List Node) (operator : PlanOperator) (parts : List Part)
+    (inlet : Inlet Message) : Type 0 where
   pub ports : List Port
   pub over : PortsOver parts ports
   pub adds : Adds old new (Some operator) ports inlet
 
 -- a node of a task was added over parts: its operator is new
-pub record AddsTask (old new : List Node) (task : Task) (parts : List Part) (whole : Part) : Type 0 where
-  pub operator : PlanOperator
-  pub adds : AddsOver old new operator parts whole.inlet
-  pub task_is : task_of operator ≡ task
-  pub stands : StandsFor operator no_messages []
-  pub root : whole.root ≡ length old
+pub record AddsTask (old new : List Node) (task : Task) (parts : List Part) (whole : Part) : Type 0
+  where
+    pub operator : PlanOperator
+    pub adds : AddsOver old new operator parts whole.inlet
+    pub task_is : task_of operator ≡ task
+    pub stands : StandsFor operator no_messages []
+    pub root : whole.root ≡ length old
 
 -- the nodes are linked, each stands for what it took, and nothing has come from any
 pub record IsNew (nodes : List Node) : Type 0 where
@@ -75,7 +79,8 @@ pub record PartHolds (nodes : List Node) (start : ℕ) (shape : Shape) (part : P
   pub nothing_known : length (known part.inlet) ≡ 0
 
 -- a plan was built at the end of the nodes and of the leaves
-pub record PartBuilt (schemas : List (List Kind)) (plan : Plan) (old new : List Node) (leaves leaves' : List Leaf) (part : Part) : Type 0 where
+pub record PartBuilt (schemas : List (List Kind)) (plan : Plan) (old new : List Node)
+    (leaves leaves' : List Leaf) (part : Part) : Type 0 where
   pub more : List Node
   pub added : new ≡ old ++ more
   pub count : length new ≡ length old + node_count (shape_of schemas plan)

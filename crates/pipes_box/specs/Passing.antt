@@ -15,4 +15,6 @@ MayPass kinds p m = CanFollow p m × MessageFits m kinds
 abbrev pub Passes : List Kind → Progress → List Message → List Message → Type 0
 Passes kinds p [] passed = passed ≡ []
 Passes kinds p (m ∷ taken) passed =
-    ((rest : List Message) × (passed ≡ m ∷ rest) × MayPass kinds p m × Passes kinds (after p m) taken rest) ⊎ ((MayPass kinds p m → ⊥) × Passes kinds p taken passed)
+    ((rest : List Message) × (passed ≡ m ∷ rest) × MayPass kinds p m
+    × Passes kinds (after p m) taken rest) ⊎ ((MayPass kinds p m → ⊥)
+    × Passes kinds p taken passed)

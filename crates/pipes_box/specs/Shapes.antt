@@ -1,5 +1,6 @@
 -- A plan as the tasks of its nodes, and what it means over lists given at its leaves.
-use Rattle.std.specs.Prelude.{◌≡◌, ℕ, ◌+◌, ◌<◌, Bool, true, false, ◌&&◌, cond, eqb, List, [], ◌++◌, slice_get, unwrap_or}
+use Rattle.std.specs.Prelude.{◌≡◌, ℕ, ◌+◌, ◌<◌, Bool, true, false, ◌&&◌, cond, eqb, List, [], ◌++◌}
+use Rattle.std.specs.Prelude.{slice_get, unwrap_or}
 use Rattle.std.specs.List.{All}
 use Rattle.pipes_tuple.specs.declared.value.Value.{Value}
 use Rattle.pipes_tuple.specs.declared.value.Kind.{Kind}
@@ -11,7 +12,8 @@ use Rattle.pipes_stream.specs.Snapshot.{snapshot}
 use Rattle.pipes_stream.specs.Lists.{Valid, beat, elements}
 use Rattle.pipes_stream.specs.Lawful.{Lists, Task, IsCovered}
 use Rattle.pipes_plan.specs.declared.plan.Plan.{Plan, fold-Plan}
-use Rattle.pipes_plan.specs.declared.plan.Plan.TheOpen.{Plan-F, Source, Filter, Map, Union, Join, Distinct, Group, Minus}
+use Rattle.pipes_plan.specs.declared.plan.Plan.TheOpen.{Plan-F, Source, Filter, Map, Union, Join}
+use Rattle.pipes_plan.specs.declared.plan.Plan.TheOpen.{Distinct, Group, Minus}
 use Rattle.pipes_plan.specs.Algebra.{alg}
 use Rattle.pipes_flat.specs.Tasks.{filter_task, map_task, union_task}
 
@@ -72,13 +74,15 @@ two_bags left right port = cond (eqb port 0) left right
 abbrev pub meaning_of : Shape → ℕ → (ℕ → List (List Value)) → List (List Value)
 meaning_of (Leaf source kinds) n bags = bags n
 meaning_of (One task a) n bags = task.meaning (λ port. meaning_of a n bags)
-meaning_of (Two task a b) n bags = task.meaning (two_bags (meaning_of a n bags) (meaning_of b (n + leaf_count a) bags))
+meaning_of (Two task a b) n bags = task.meaning (two_bags (meaning_of a n bags)
+    (meaning_of b (n + leaf_count a) bags))
 
 -- the elements given at the leaves
 abbrev pub leaf_elements : Shape → ℕ → Lists → List Elem
 leaf_elements (Leaf source kinds) n given = elements (given n)
 leaf_elements (One task a) n given = leaf_elements a n given
-leaf_elements (Two task a b) n given = leaf_elements a n given ++ leaf_elements b (n + leaf_count a) given
+leaf_elements (Two task a b) n given = leaf_elements a n given
+    ++ leaf_elements b (n + leaf_count a) given
 
 -- what is given at each leaf is valid, and its tuples fit
 pub record LeafFits (kinds : List Kind) (list : List Message) : Type 0 where
@@ -96,7 +100,8 @@ pub record Answers (shape : Shape) (n : ℕ) (given : Lists) (list : List Messag
   pub valid : Valid list
   pub fits : All (λ e. Fits e.tuple (gives_of shape)) (elements list)
   pub answer : (t : ℕ) → t < beat list
-      → SameBag (snapshot (elements list) t) (meaning_of shape n (λ leaf. snapshot (elements (given leaf)) t))
+      → SameBag (snapshot (elements list) t) (meaning_of shape n
+      (λ leaf. snapshot (elements (given leaf)) t))
   -- each element's span is a part of the span of one that was given
   pub spans : All (IsCovered (leaf_elements shape n given)) (elements list)
 
@@ -117,10 +122,12 @@ FollowsPlan schemas plan given list =
 
 -- the task makes the same bag of the same bags at its ports
 abbrev pub KeepsBags : Task → Type 0
-KeepsBags task = (f g : ℕ → List (List Value)) → ((port : ℕ) → port < task.ports → SameBag (f port) (g port)) → SameBag (task.meaning f) (task.meaning g)
+KeepsBags task = (f g : ℕ → List (List Value)) → ((port : ℕ) → port < task.ports
+    → SameBag (f port) (g port)) → SameBag (task.meaning f) (task.meaning g)
 
 -- the tasks keep bags, and each takes at its ports what its children send
 abbrev pub IsProper : Shape → Type 0
 IsProper (Leaf source kinds) = Unit {0}
 IsProper (One task a) = KeepsBags task × (task.ports ≡ 1) × (task.takes 0 ≡ gives_of a) × IsProper a
-IsProper (Two task a b) = KeepsBags task × (task.ports ≡ 2) × (task.takes 0 ≡ gives_of a) × (task.takes 1 ≡ gives_of b) × IsProper a × IsProper b
+IsProper (Two task a b) = KeepsBags task × (task.ports ≡ 2) × (task.takes 0 ≡ gives_of a)
+    × (task.takes 1 ≡ gives_of b) × IsProper a × IsProper b

@@ -1,5 +1,6 @@
 // A plan's nodes and links are made.
-ghost use Rattle.std.specs.Prelude.{◌≡◌, ◌≤◌, ◌<◌, ◌+◌, ◌++◌, [], ◌∷◌, true, length, IfOk, Some, None};
+ghost use Rattle.std.specs.Prelude.{◌≡◌, ◌≤◌, ◌<◌, ◌+◌, ◌++◌, [], ◌∷◌, true, length, IfOk, Some};
+ghost use Rattle.std.specs.Prelude.{None};
 ghost use Rattle.pipes_link.specs.declared.TheConstants.{MOST_ROOM};
 ghost use Rattle.pipes_plan.specs.PlanKinds.{IsTyped, plan_kinds};
 ghost use Rattle.pipes_plan.specs.Sizes.{plan_nodes, plan_depth};
@@ -89,7 +90,8 @@ fn add_node(
     operator: Option<PlanOperator>,
     ports: Vec<Port>,
 ) -> Result<Inlet<Message>, Memory>
-    ensures { IfOk result (λ inlet. Adds nodes.old.items nodes.new.items operator ports.items inlet) }
+    ensures { IfOk result (λ inlet. Adds nodes.old.items nodes.new.items operator ports.items
+        inlet) }
 {
     let (outlet, inlet) = link(spot.alloc, spot.room)?;
     nodes.push(Node {
@@ -117,7 +119,8 @@ fn add_source(
     ensures nodes { IfOk result (λ part. Adds nodes.old.items nodes.new.items None [] part.inlet) }
     ensures root { IfOk result (λ part. part.root ≡ length nodes.old.items) }
     ensures schema { IfOk result (λ part. part.schema ≡ schema) }
-    ensures leaves { IfOk result (λ part. leaves.new.items ≡ leaves.old.items ++ record { node = length nodes.old.items; source = source } ∷ []) }
+    ensures leaves { IfOk result (λ part. leaves.new.items ≡ leaves.old.items
+        ++ record { node = length nodes.old.items; source = source } ∷ []) }
 {
     let root = nodes.len();
     leaves.push(Leaf { node: root, source })?;
@@ -137,7 +140,8 @@ fn add_one(
     part: Part,
     schema: Schema,
 ) -> Result<Part, Memory>
-    ensures nodes { IfOk result (λ whole. AddsOver nodes.old.items nodes.new.items operator (part ∷ []) whole.inlet) }
+    ensures nodes { IfOk result (λ whole. AddsOver nodes.old.items nodes.new.items operator
+        (part ∷ []) whole.inlet) }
     ensures root { IfOk result (λ whole. whole.root ≡ length nodes.old.items) }
     ensures schema { IfOk result (λ whole. whole.schema ≡ schema) }
 {
@@ -160,7 +164,8 @@ fn add_two(
     right: Part,
     schema: Schema,
 ) -> Result<Part, Memory>
-    ensures nodes { IfOk result (λ whole. AddsOver nodes.old.items nodes.new.items operator (left ∷ right ∷ []) whole.inlet) }
+    ensures nodes { IfOk result (λ whole. AddsOver nodes.old.items nodes.new.items operator
+        (left ∷ right ∷ []) whole.inlet) }
     ensures root { IfOk result (λ whole. whole.root ≡ length nodes.old.items) }
     ensures schema { IfOk result (λ whole. whole.schema ≡ schema) }
 {
@@ -182,7 +187,8 @@ fn filter_over(
     nodes: &mut Vec<Node>,
 ) -> Result<Part, Memory>
     requires { IsTyped (plans.Filter condition.now (plans.Source 0)) (part.schema ∷ []) }
-    ensures adds { IfOk result (λ whole. AddsTask nodes.old.items nodes.new.items (filter_task condition.now part.schema) (part ∷ []) whole) }
+    ensures adds { IfOk result (λ whole. AddsTask nodes.old.items nodes.new.items
+        (filter_task condition.now part.schema) (part ∷ []) whole) }
     ensures schema { IfOk result (λ whole. whole.schema ≡ part.schema) }
 {
     let condition = condition.copy(spot.alloc)?;
@@ -200,7 +206,8 @@ fn map_over(
     nodes: &mut Vec<Node>,
 ) -> Result<Part, Memory>
     requires { IsTyped (plans.Map exprs.now (plans.Source 0)) (part.schema ∷ []) }
-    ensures adds { IfOk result (λ whole. AddsTask nodes.old.items nodes.new.items (map_task exprs.now part.schema) (part ∷ []) whole) }
+    ensures adds { IfOk result (λ whole. AddsTask nodes.old.items nodes.new.items
+        (map_task exprs.now part.schema) (part ∷ []) whole) }
     ensures schema { IfOk result (λ whole. whole.schema ≡ schema) }
 {
     let exprs = copy_exprs(spot.alloc, exprs)?;
@@ -210,8 +217,10 @@ fn map_over(
 
 // A union of two parts.
 fn union_over(spot: Spot, left: Part, right: Part, nodes: &mut Vec<Node>) -> Result<Part, Memory>
-    requires { IsTyped (plans.Union (plans.Source 0) (plans.Source 1)) (left.schema ∷ left.schema ∷ []) }
-    ensures adds { IfOk result (λ whole. AddsTask nodes.old.items nodes.new.items (union_task left.schema) (left ∷ right ∷ []) whole) }
+    requires { IsTyped (plans.Union (plans.Source 0) (plans.Source 1))
+        (left.schema ∷ left.schema ∷ []) }
+    ensures adds { IfOk result (λ whole. AddsTask nodes.old.items nodes.new.items
+        (union_task left.schema) (left ∷ right ∷ []) whole) }
     ensures schema { IfOk result (λ whole. whole.schema ≡ left.schema) }
 {
     let union = Union::new(spot.alloc, left.schema.copy()?)?;
@@ -230,7 +239,8 @@ fn source_at(
 ) -> Result<Part, Memory>
     requires typed { IsTyped plan.now schemas.now }
     requires source { plan.now ≡ plans.Source source }
-    ensures { IfOk result (λ part. PartBuilt schemas.now plan.now nodes.old.items nodes.new.items leaves.old.items leaves.new.items part) }
+    ensures { IfOk result (λ part. PartBuilt schemas.now plan.now nodes.old.items nodes.new.items
+        leaves.old.items leaves.new.items part) }
 {
     let schema = schemas.as_slice()[source as usize].copy()?;
     let part = add_source(spot, nodes, leaves, source, schema)?;
@@ -258,7 +268,8 @@ pub(crate) fn build_at(
     leaves: &mut Vec<Leaf>,
 ) -> Result<Part, Memory>
     requires { IsTyped plan.now schemas.now }
-    ensures { IfOk result (λ part. PartBuilt schemas.now plan.now nodes.old.items nodes.new.items leaves.old.items leaves.new.items part) }
+    ensures { IfOk result (λ part. PartBuilt schemas.now plan.now nodes.old.items nodes.new.items
+        leaves.old.items leaves.new.items part) }
 {
     let spot = spot.enter(next);
     match plan {

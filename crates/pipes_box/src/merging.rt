@@ -25,8 +25,10 @@ fn append_merged(
     level: &mut u64,
     message: Message,
 ) -> Result<(), Memory>
-    ensures merged { OnOk result (Merged pending.old.items level.old message pending.new.items level.new) }
-    ensures memory { OnErr result ((pending.new.items ≡ pending.old.items) × (level.new ≡ level.old)) }
+    ensures merged { OnOk result (Merged pending.old.items level.old message pending.new.items
+        level.new) }
+    ensures memory { OnErr result ((pending.new.items ≡ pending.old.items)
+        × (level.new ≡ level.old)) }
 {
     if let Message::Beat(at) = &message {
         if *at <= *level {
@@ -53,7 +55,8 @@ pub(crate) fn move_merged(
     pending: &mut VecDeque<Message>,
     level: &mut u64,
 ) -> Result<(), Memory>
-    ensures merged { OnOk result (MergedAll pending.old.items level.old fresh.old.items pending.new.items level.new) }
+    ensures merged { OnOk result (MergedAll pending.old.items level.old fresh.old.items
+        pending.new.items level.new) }
     ensures moved { OnOk result (fresh.new.items ≡ []) }
 {
     for message in fresh.drain(..) {

@@ -1,5 +1,6 @@
 // A node of a plan at work.
-ghost use Rattle.std.specs.Prelude.{◌≡◌, ◌≤◌, ◌<◌, ◌+◌, ◌-◌, ◌^◌, min, ◌++◌, [], ◌∷◌, length, List, IfOk, IsErr, OnOk, OnErr, true, false};
+ghost use Rattle.std.specs.Prelude.{◌≡◌, ◌≤◌, ◌<◌, ◌+◌, ◌-◌, ◌^◌, min, ◌++◌, [], ◌∷◌, length, List};
+ghost use Rattle.std.specs.Prelude.{IfOk, IsErr, OnOk, OnErr, true, false};
 ghost use Rattle.std.specs.Bool.{OnTrue, OnFalse};
 ghost use Rattle.pipes_stream.specs.declared.message.Message.{Message as Sent};
 ghost use Rattle.pipes_stream.specs.Lawful.{Lists, CanTake, with_message};
@@ -54,7 +55,9 @@ fn send_for(
 }
 
 impl Node {
-    ghost use Rattle.pipes_box.specs.Nodes.{IsCounted, IsDrained, held_in, EmitsMore, Turned, NodeMoves, NodeStands, NodeWorks, total_ready, task_in, ports_of};
+    ghost use Rattle.pipes_box.specs.Nodes.{IsCounted, IsDrained, held_in, EmitsMore, Turned};
+    ghost use Rattle.pipes_box.specs.Nodes.{NodeMoves, NodeStands, NodeWorks, total_ready, task_in};
+    ghost use Rattle.pipes_box.specs.Nodes.{ports_of};
 
     // Lets the operator take a message that passed at a port. A source has no port, and so takes
     // none.
@@ -78,10 +81,12 @@ impl Node {
         ensures counted { IsCounted self.new }
         ensures moves { NodeMoves self.old self.new }
         ensures stands { OnOk result (NodeStands self.old → NodeStands self.new) }
-        ensures took { IfOk result (λ took. OnTrue took (total_ready self.old.ports.items ≡ total_ready self.new.ports.items + 1)) }
+        ensures took { IfOk result (λ took. OnTrue took
+            (total_ready self.old.ports.items ≡ total_ready self.new.ports.items + 1)) }
         ensures none { IfOk result (λ took. OnFalse took (IsDrained self.new port)) }
         ensures idle { IfOk result (λ took. OnFalse took (self.new.pending ≡ self.old.pending)) }
-        ensures same { IfOk result (λ took. OnFalse took (self.new.ports.items ≡ self.old.ports.items)) }
+        ensures same { IfOk result (λ took. OnFalse took
+            (self.new.ports.items ≡ self.old.ports.items)) }
         ensures going { self.new.failed ≡ self.old.failed }
         ensures outlet { self.new.outlet ≡ self.old.outlet }
     {
@@ -102,7 +107,8 @@ impl Node {
         ensures counted { IsCounted self.new }
         ensures moves { NodeMoves self.old self.new }
         ensures stands { OnOk result (NodeStands self.old → NodeStands self.new) }
-        ensures number { IfOk result (λ taken. total_ready self.old.ports.items ≡ total_ready self.new.ports.items + taken) }
+        ensures number { IfOk result (λ taken. total_ready self.old.ports.items ≡ total_ready
+            self.new.ports.items + taken) }
         ensures drained { OnOk result (IsDrained self.new port) }
         ensures idle { IfOk result (λ taken. taken ≡ 0 → self.new.pending ≡ self.old.pending) }
         ensures going { self.new.failed ≡ self.old.failed }
@@ -139,8 +145,10 @@ impl Node {
     fn put_one(&mut self) -> bool
         ensures moves { NodeMoves self.old self.new }
         ensures stands { NodeStands self.old → NodeStands self.new }
-        ensures put { OnTrue result (length self.old.pending.items ≡ length self.new.pending.items + 1) }
-        ensures sent { OnTrue result (length (sent self.new.outlet) ≡ length (sent self.old.outlet) + 1) }
+        ensures put { OnTrue result (length self.old.pending.items ≡ length
+            self.new.pending.items + 1) }
+        ensures sent { OnTrue result (length (sent self.new.outlet) ≡ length
+            (sent self.old.outlet) + 1) }
         ensures none { OnFalse result (self.new.pending.items ≡ self.old.pending.items) }
         ensures none_sent { OnFalse result (sent self.new.outlet ≡ sent self.old.outlet) }
         ensures stuck { OnFalse result (0 < spare self.old.outlet → self.old.pending.items ≡ []) }

@@ -1,5 +1,7 @@
 // A plan at work.
-ghost use Rattle.std.specs.Prelude.{◌≡◌, ◌≤◌, ◌<◌, ◌++◌, ◌∷◌, [], ℕ, List, All, length, get_or, min, ◌-◌, ◌^◌, true, false, IfOk, IfErr, IfSome, IfNone, OnOk, OnErr, OnSome, IsErr, IsOk};
+ghost use Rattle.std.specs.Prelude.{◌≡◌, ◌≤◌, ◌<◌, ◌++◌, ◌∷◌, [], ℕ, List, All, length, get_or};
+ghost use Rattle.std.specs.Prelude.{min, ◌-◌, ◌^◌, true, false, IfOk, IfErr, IfSome, IfNone, OnOk};
+ghost use Rattle.std.specs.Prelude.{OnErr, OnSome, IsErr, IsOk};
 ghost use Rattle.std.specs.Bool.{OnTrue};
 ghost use Rattle.std.specs.List.{sum_by};
 ghost use Rattle.pipes_tuple.specs.declared.value.Kind.{Kind};
@@ -70,7 +72,8 @@ fn total_held(nodes: &[Node]) -> u64
 }
 
 impl PlanBox {
-    ghost use Rattle.pipes_box.specs.Boxes.{BoxStands, IsSound, IsStill, Moved, all_held, GivesOne, StaysAsBefore, TakesOne};
+    ghost use Rattle.pipes_box.specs.Boxes.{BoxStands, IsSound, IsStill, Moved, all_held, GivesOne};
+    ghost use Rattle.pipes_box.specs.Boxes.{StaysAsBefore, TakesOne};
     ghost use Rattle.pipes_box.specs.Networks.{Settles};
     ghost use Rattle.pipes_box.specs.Prompt.{AllEnded, IsPrompt};
     ghost use Rattle.pipes_box.specs.Rounds.{AllTurned, TopLooks};
@@ -113,9 +116,11 @@ impl PlanBox {
     /// and nothing to run.
     pub fn answers(&self)
         requires { IsSound self.now }
-        ensures answer { (schemas : List (List Kind)) (plan : Tree) (given : Lists) (got : List Sent) → BoxStands self.now schemas plan given got
+        ensures answer { (schemas : List (List Kind)) (plan : Tree) (given : Lists)
+            (got : List Sent) → BoxStands self.now schemas plan given got
             → Answers (shape_of schemas plan) 0 given got }
-        ensures algebra { (schemas : List (List Kind)) (plan : Tree) (given : Lists) (got : List Sent) → BoxStands self.now schemas plan given got
+        ensures algebra { (schemas : List (List Kind)) (plan : Tree) (given : Lists)
+            (got : List Sent) → BoxStands self.now schemas plan given got
             → is_built plan ≡ true → FollowsPlan schemas plan given got }
     {}
 
@@ -124,9 +129,11 @@ impl PlanBox {
     pub fn keeps_up(&self)
         requires sound { IsSound self.now }
         requires still { IsStill self.now }
-        ensures prompt { (schemas : List (List Kind)) (plan : Tree) (given : Lists) (got : List Sent) → BoxStands self.now schemas plan given got
+        ensures prompt { (schemas : List (List Kind)) (plan : Tree) (given : Lists)
+            (got : List Sent) → BoxStands self.now schemas plan given got
             → IsPrompt (shape_of schemas plan) 0 given got }
-        ensures keeps_none { (schemas : List (List Kind)) (plan : Tree) (given : Lists) (got : List Sent) → BoxStands self.now schemas plan given got
+        ensures keeps_none { (schemas : List (List Kind)) (plan : Tree) (given : Lists)
+            (got : List Sent) → BoxStands self.now schemas plan given got
             → AllEnded (shape_of schemas plan) 0 given → all_held self.now ≡ 0 }
     {}
 
@@ -136,7 +143,8 @@ impl PlanBox {
         ensures sound { IsSound self.new }
         ensures stands { StaysAsBefore self.old self.new }
         ensures going { self.new.failed ≡ self.old.failed }
-        ensures links { Settles self.old.nodes.items self.new.nodes.items (length self.old.nodes.items) 0 }
+        ensures links { Settles self.old.nodes.items self.new.nodes.items
+            (length self.old.nodes.items) 0 }
         ensures top { self.new.top ≡ self.old.top }
     {
         settle_all(self.nodes.as_mut_slice());
@@ -184,7 +192,8 @@ impl PlanBox {
         requires most { workers ≤ 16 }
         ensures sound { IsSound self.new }
         ensures stands { OnOk result (StaysAsBefore self.old self.new) }
-        ensures moved { IfOk result (λ moved. Moved self.old.nodes.items self.new.nodes.items moved) }
+        ensures moved { IfOk result (λ moved. Moved self.old.nodes.items self.new.nodes.items
+            moved) }
         ensures still { IfOk result (λ moved. moved ≡ 0 → ready self.new.top ≡ 0
             → IsStill self.new) }
         ensures memory { OnErr result (self.new.failed ≡ true) }

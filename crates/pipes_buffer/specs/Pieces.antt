@@ -2,14 +2,16 @@
 use Rattle.std.specs.Prelude.{◌≡◌, ◌⊎◌, ℕ, ◌<◌, List, ◌++◌, length, take, Option}
 use Rattle.std.specs.Io.KnownBytes.{Appends}
 
--- a front of the bytes was appended
-abbrev pub AppendsFront : Option (List ℕ) → Option (List ℕ) → List ℕ → Type 0
-AppendsFront before now bytes = (n : ℕ) × Appends before now (take n bytes)
+-- a prefix of the bytes was appended
+abbrev pub AppendsPrefix : Option (List ℕ) → Option (List ℕ) → List ℕ → Type 0
+AppendsPrefix before now bytes = (n : ℕ) × Appends before now (take n bytes)
 
 -- all of the file's bytes, or the first ones, more than the limit, of a file that has more
 abbrev pub ReadsUpTo : ℕ → List ℕ → List ℕ → Type 0
-ReadsUpTo limit file bytes = (bytes ≡ file) ⊎ ((limit < length bytes) × (limit < length file) × (bytes ≡ take (length bytes) file))
+ReadsUpTo limit file bytes = (bytes ≡ file) ⊎ ((limit < length bytes) × (limit < length file)
+    × (bytes ≡ take (length bytes) file))
 
--- a front of the text was passed on, and the rest is still kept
+-- a prefix of the text was passed on, and the rest is still kept
 abbrev pub PassesOn : Option (List ℕ) → Option (List ℕ) → List ℕ → List ℕ → Type 0
-PassesOn before now text kept = (front : List ℕ) × Appends before now front × (text ≡ front ++ kept)
+PassesOn before now text kept = (prefix : List ℕ) × Appends before now prefix
+    × (text ≡ prefix ++ kept)

@@ -1,14 +1,16 @@
 //! Reads of whole files and writes of whole texts, piece by piece through one buffer.
 #![tactic(auto)]
 
-ghost use Rattle.std.specs.Prelude.{◌≡◌, ◌≤◌, ◌<◌, ◌++◌, Some, List, ℕ, OnOk, OnErr, IfOk, IsErrOf, length};
+ghost use Rattle.std.specs.Prelude.{◌≡◌, ◌≤◌, ◌<◌, ◌++◌, Some, List, ℕ, OnOk, OnErr, IfOk, IsErrOf};
+ghost use Rattle.std.specs.Prelude.{length};
 ghost use Rattle.std.specs.Io.KnownBytes.{Appends};
 ghost use Rattle.pipes_edge.specs.Causes.{Rose, HasCause};
-ghost use Rattle.pipes_buffer.specs.Pieces.{AppendsFront, PassesOn, ReadsUpTo};
+ghost use Rattle.pipes_buffer.specs.Pieces.{AppendsPrefix, PassesOn, ReadsUpTo};
 ghost use Rattle.pipes_buffer.specs.declared.IoFault.TheVariants as faults;
 
 use pipes_edge::{Failed, Sink, Source};
 use pipes_time::Memory;
+use pipes_tuple::append;
 use std::alloc::Global;
 
 /// How many bytes a read asks for, and how many wait before they are written.
@@ -19,7 +21,7 @@ pub const BUFFER: usize = 65_536;
 pub enum IoFault {
     /// A read or a write failed.
     Failed,
-    /// Want of memory.
+    /// Out of memory.
     Memory,
 }
 
@@ -39,16 +41,8 @@ impl From<Memory> for IoFault {
     }
 }
 
-/// Appends the bytes. Without memory nothing is appended.
-pub fn append(to: &mut Vec<u8>, bytes: &[u8]) -> Result<(), Memory>
-    ensures ok { OnOk result (to.new.items ≡ to.old.items ++ bytes.now) }
-    ensures err { OnErr result (to.new.items ≡ to.old.items) }
-{
-    to.extend_from_slice(bytes)?;
-    Ok(())
-}
-
-/// Reads the source to its end, or until it has given more bytes than the limit: these are then the first of the file.
+/// Reads the source to its end, or until it has given more bytes than the limit: these are then the
+/// first of the file.
 pub fn read_up_to<S: Source>(
     alloc: Global,
     src: &mut S,
@@ -56,7 +50,8 @@ pub fn read_up_to<S: Source>(
     buffer: &mut [u8],
 ) -> Result<Vec<u8>, IoFault>
     requires { 0 < length buffer.old }
-    ensures bytes { (file : List ℕ) → S.left src.old ≡ Some file → IfOk result (λ bytes. ReadsUpTo limit file bytes.items) }
+    ensures bytes { (file : List ℕ) → S.left src.old ≡ Some file
+        → IfOk result (λ bytes. ReadsUpTo limit file bytes.items) }
     ensures later { S.faults src.old ≤ S.faults src.new }
     ensures cause { IsErrOf result IoFault.Failed → Rose (S.faults src.old) (S.faults src.new) }
     ensures name { S.name src.new ≡ S.name src.old }
@@ -68,7 +63,7 @@ pub fn read_up_to<S: Source>(
         if count == 0 {
             return Ok(bytes);
         }
-        append(&mut bytes, &buffer[..count])?;
+        append(&buffer[..count], &mut bytes)?;
     }
     Ok(bytes)
 }
@@ -76,7 +71,7 @@ pub fn read_up_to<S: Source>(
 /// Writes all bytes, unless a write fails.
 pub fn write_all<K: Sink>(out: &mut K, bytes: &[u8]) -> Result<(), Failed>
     ensures ok { OnOk result (Appends (K.written out.old) (K.written out.new) bytes.now) }
-    ensures err { OnErr result (AppendsFront (K.written out.old) (K.written out.new) bytes.now) }
+    ensures err { OnErr result (AppendsPrefix (K.written out.old) (K.written out.new) bytes.now) }
     ensures cause { HasCause (K.faults out.old) (K.faults out.new) result }
 {
     let mut place = 0;
@@ -88,9 +83,11 @@ pub fn write_all<K: Sink>(out: &mut K, bytes: &[u8]) -> Result<(), Failed>
 
 /// Writes the text once it fills a buffer, and keeps it else, so that less than a buffer is kept.
 pub fn write_if_full<K: Sink>(out: &mut K, text: &mut Vec<u8>) -> Result<(), Failed>
-    ensures ok { OnOk result (PassesOn (K.written out.old) (K.written out.new) text.old.items text.new.items) }
+    ensures ok { OnOk result (PassesOn (K.written out.old) (K.written out.new) text.old.items
+        text.new.items) }
     ensures less { OnOk result (length text.new.items < BUFFER) }
-    ensures front { OnErr result (AppendsFront (K.written out.old) (K.written out.new) text.old.items) }
+    ensures prefix { OnErr result (AppendsPrefix (K.written out.old) (K.written out.new)
+        text.old.items) }
     ensures cause { HasCause (K.faults out.old) (K.faults out.new) result }
 {
     if text.len() < BUFFER {

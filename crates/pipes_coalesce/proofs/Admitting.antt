@@ -1,21 +1,25 @@
 -- Messages that come on either side.
-use Rattle.std.proofs.Common.{◌≡◌, ◌≢◌, ℕ, ◌+◌, ◌≤◌, ◌<◌, Bool, true, false, List, [], ◌∷◌, ◌++◌, refl, sym, ap, ◌∙◌, subst, arith, append-nil}
+use Rattle.std.proofs.Common.{◌≡◌, ◌≢◌, ℕ, ◌+◌, ◌≤◌, ◌<◌, Bool, true, false, List, [], ◌∷◌, ◌++◌}
+use Rattle.std.proofs.Common.{refl, sym, ap, ◌∙◌, subst, arith, append-nil}
 use Rattle.pipes_time.specs.Interval.{closed, IsInterval}
 use Rattle.pipes_stream.specs.declared.Elem.{Elem}
 use Rattle.pipes_stream.specs.declared.message.Message.{Message}
 use Rattle.pipes_stream.specs.declared.message.Message.TheVariants as message
 use Rattle.pipes_stream.specs.Progress.{Progress}
 use Rattle.pipes_stream.specs.Lists.{CanFollow, after, run, start_of_list, Valid, beat, elements}
-use Rattle.pipes_stream.proofs.Messages.{run-push, valid-push, elements-append, after-rises, beat-closed}
+use Rattle.pipes_stream.proofs.Messages.{run-push, valid-push, elements-append, after-rises}
+use Rattle.pipes_stream.proofs.Messages.{beat-closed}
 use Rattle.pipes_coalesce.specs.Bags.{weigh}
 use Rattle.pipes_coalesce.specs.Tests.{starts_below, ends_above}
 use Rattle.pipes_coalesce.specs.Filed.{has_tuple, Added, TakenOut}
 use Rattle.pipes_coalesce.specs.Joined.{IsJoint}
-use Rattle.pipes_coalesce.specs.Stands.{number, EndsBy, StartsFrom, Parts, Flows, FreshFlows, Stays, AdmitsOld, AdmitsElem, AdmitsFresh}
+use Rattle.pipes_coalesce.specs.Stands.{number, EndsBy, StartsFrom, Parts, Flows, FreshFlows, Stays}
+use Rattle.pipes_coalesce.specs.Stands.{AdmitsOld, AdmitsElem, AdmitsFresh}
 use Rattle.pipes_coalesce.specs.declared.merge.Coalesce.{Coalesce}
 use Rattle.pipes_coalesce.proofs.Touching.{not-lt, else-zero}
 use Rattle.pipes_coalesce.proofs.Steps.{push-of}
-use Rattle.pipes_coalesce.proofs.Coming.{beats-rise, old-comes, later-comes, partner-comes, both-come}
+use Rattle.pipes_coalesce.proofs.Coming.{beats-rise, old-comes, later-comes, partner-comes}
+use Rattle.pipes_coalesce.proofs.Coming.{both-come}
 
 -- ---- a fresh element
 module _ (c d : Coalesce) (e : Elem) (before now : List Message) (y : Stays c d)

@@ -1,19 +1,25 @@
 -- What comes on either side.
-use Rattle.std.proofs.Common.{◌≡◌, ◌≢◌, ◌⊎◌, ℕ, ◌+◌, ◌≤◌, ◌<◌, max, List, [], ◌∷◌, ◌++◌, refl, sym, ap, ◌∙◌, subst, arith, inl, inr}
+use Rattle.std.proofs.Common.{◌≡◌, ◌≢◌, ◌⊎◌, ℕ, ◌+◌, ◌≤◌, ◌<◌, max, List, [], ◌∷◌, ◌++◌, refl, sym}
+use Rattle.std.proofs.Common.{ap, ◌∙◌, subst, arith, inl, inr}
 use Rattle.std.proofs.lemmas.Bool.{cases_lt}
 use Rattle.pipes_time.specs.Interval.{horizon, IsInterval}
 use Rattle.pipes_stream.specs.declared.Elem.{Elem}
 use Rattle.pipes_coalesce.specs.Bags.{weigh}
-use Rattle.pipes_coalesce.specs.Tests.{starts_above, starts_by, starts_elsewhere, ends_above, ends_at, ends_elsewhere, is_no_interval, touch, touching}
+use Rattle.pipes_coalesce.specs.Tests.{starts_above, starts_by, starts_elsewhere, ends_above}
+use Rattle.pipes_coalesce.specs.Tests.{ends_at, ends_elsewhere, is_no_interval, touch, touching}
 use Rattle.pipes_coalesce.specs.Filed.{has_tuple, Added, TakenOut}
 use Rattle.pipes_coalesce.specs.Joined.{IsJoint}
 use Rattle.pipes_coalesce.specs.Merging.{Pairing, IsPairing, Bags}
 use Rattle.pipes_coalesce.specs.Stands.{RisesFrom, number, Parts}
 use Rattle.pipes_coalesce.proofs.Weights.{weigh-append, weigh-none}
-use Rattle.pipes_coalesce.proofs.Touching.{not-lt, lt-zero, not-le, not-eq, is-else, else-zero, no-interval, zero-of, none-weighs}
-use Rattle.pipes_coalesce.proofs.Touching.{end-apart, start-apart, touched-tuple, touch-end, touch-spans, touching-more, touching-less, touching-across}
+use Rattle.pipes_coalesce.proofs.Touching.{not-lt, lt-zero, not-le, not-eq, is-else, else-zero}
+use Rattle.pipes_coalesce.proofs.Touching.{no-interval, zero-of, none-weighs}
+use Rattle.pipes_coalesce.proofs.Touching.{end-apart, start-apart, touched-tuple, touch-end}
+use Rattle.pipes_coalesce.proofs.Touching.{touch-spans, touching-more, touching-less}
+use Rattle.pipes_coalesce.proofs.Touching.{touching-across}
 use Rattle.pipes_coalesce.proofs.Pairs.{bags-same, bags-old, bags-fresh, bags-pair}
-use Rattle.pipes_coalesce.proofs.Steps.{rises-below, rises-above, rises-push, all-of, near-of, push-of, sent-low}
+use Rattle.pipes_coalesce.proofs.Steps.{rises-below, rises-above, rises-push, all-of, near-of}
+use Rattle.pipes_coalesce.proofs.Steps.{push-of, sent-low}
 
 module _ (t ob fb b s : ℕ) (olds lone partners later os fs ss : List Elem)
     (p : Parts t ob fb b s olds lone partners later os fs ss) where

@@ -1,6 +1,8 @@
 -- Queues of elements by their tuple.
-use Rattle.std.proofs.Common.{◌≡◌, ◌≢◌, ℕ, zero, suc, ◌+◌, ◌-◌, ◌≤◌, ◌<◌, Bool, true, false, cond, List, [], ◌∷◌, ◌++◌, map, reverse, length}
-use Rattle.std.proofs.Common.{Option, Some, None, slice_get, position, refl, sym, ap, ◌∙◌, subst, arith, get_or, swap_remove}
+use Rattle.std.proofs.Common.{◌≡◌, ◌≢◌, ℕ, zero, suc, ◌+◌, ◌-◌, ◌≤◌, ◌<◌, Bool, true, false, cond}
+use Rattle.std.proofs.Common.{List, [], ◌∷◌, ◌++◌, map, reverse, length}
+use Rattle.std.proofs.Common.{Option, Some, None, slice_get, position, refl, sym, ap, ◌∙◌, subst}
+use Rattle.std.proofs.Common.{arith, get_or, swap_remove}
 use Rattle.std.specs.Prelude.{MatchOption}
 use Rattle.std.specs.List.{All, AllByRecursion}
 use Rattle.std.proofs.lemmas.Bool.{true≢false}
@@ -18,7 +20,8 @@ use Rattle.pipes_tuple.specs.Equal.{tuple_eq}
 use Rattle.pipes_tuple.proofs.Equality.{tuple_eq-Decides}
 use Rattle.pipes_stream.specs.declared.Elem.{Elem}
 use Rattle.pipes_coalesce.specs.Bags.{weigh}
-use Rattle.pipes_coalesce.specs.Filed.{Entries, contents, HaveTuple, AreFiled, EntryAt, has_tuple, Added, TakenOut, Finds, QueueOut}
+use Rattle.pipes_coalesce.specs.Filed.{Entries, contents, HaveTuple, AreFiled, EntryAt, has_tuple}
+use Rattle.pipes_coalesce.specs.Filed.{Added, TakenOut, Finds, QueueOut}
 use Rattle.pipes_coalesce.proofs.Weights.{weigh-append, weigh-one}
 
 -- ---- a queue

@@ -1,5 +1,8 @@
 -- What a Coalesce stands for is merged.
-use Rattle.std.proofs.Common.{◌≡◌, ℕ, ◌+◌, ◌≤◌, ◌<◌, max, min, Bool, true, false, cond, eqb, nat_le, nat_lt, ◌&&◌, List, [], ◌∷◌, ◌++◌, map, length, filter, refl, sym, ap, ◌∙◌, subst, arith, inl, inr, ◌⊎◌}
+use Rattle.std.proofs.Common.{◌≡◌, ℕ, ◌+◌, ◌≤◌, ◌<◌, max, min, Bool, true, false, cond, eqb, nat_le}
+use Rattle.std.proofs.Common.{nat_lt, ◌&&◌, List, [], ◌∷◌, ◌++◌, map, length, filter, refl, sym, ap}
+use Rattle.std.proofs.Common.{◌∙◌, subst, arith, inl, inr, ◌⊎◌, not, append_assoc}
+use Rattle.std.proofs.lemmas.List.{length-append}
 use Rattle.std.proofs.lemmas.Bool.{cases_lt}
 use Rattle.std.proofs.lemmas.Bool.Decides.{nat_tests}
 use Rattle.pipes_time.specs.Interval.{closed, horizon, IsInterval}
@@ -12,17 +15,23 @@ use Rattle.pipes_stream.specs.declared.message.Message.{Message}
 use Rattle.pipes_stream.specs.declared.message.Message.TheVariants as message
 use Rattle.pipes_stream.specs.Progress.{Progress}
 use Rattle.pipes_stream.specs.Snapshot.{is_held, snapshot}
-use Rattle.pipes_stream.specs.Lists.{after, run, start_of_list, ValidFrom, Valid, beat, HasEnded, elements}
+use Rattle.pipes_stream.specs.Lists.{after, run, start_of_list, ValidFrom, Valid, beat, HasEnded}
+use Rattle.pipes_stream.specs.Lists.{elements}
 use Rattle.pipes_stream.proofs.Messages.{beat-closed, beat-ended}
 use Rattle.pipes_coalesce.specs.Bags.{weigh, SameMembers}
-use Rattle.pipes_coalesce.specs.Tests.{if_so, starts_below, starts_above, starts_by, starts_elsewhere, ends_above, ends_at, ends_elsewhere, waits_below, is_no_interval, touch, touching}
+use Rattle.pipes_coalesce.specs.Tests.{if_so, starts_below, starts_above, starts_by}
+use Rattle.pipes_coalesce.specs.Tests.{starts_elsewhere, ends_above, ends_at, ends_elsewhere}
+use Rattle.pipes_coalesce.specs.Tests.{goes_by, waits_below, is_no_interval, touch, touching}
+use Rattle.pipes_coalesce.specs.Filed.{FirstElsewhere}
 use Rattle.pipes_coalesce.specs.Merging.{Pairing, IsPairing, ArePairings, low, high, across, Bags}
-use Rattle.pipes_coalesce.specs.Merged.{Outcome, Merged, SameAt}
-use Rattle.pipes_coalesce.specs.Stands.{RisesFrom, number, lone_from, now_of, held_of, Parts, CoalesceStands}
+use Rattle.pipes_coalesce.specs.Merged.{Outcome, Merged, SameAt, least_start}
+use Rattle.pipes_coalesce.specs.Stands.{RisesFrom, number, lone_from, now_of, held_of, Parts}
+use Rattle.pipes_coalesce.specs.Stands.{CoalesceStands}
 use Rattle.pipes_coalesce.specs.declared.merge.Coalesce.{Coalesce}
 use Rattle.pipes_coalesce.proofs.Weights.{weigh-append, weigh-same, weigh-le}
-use Rattle.pipes_coalesce.proofs.Touching.{not-lt, lt-zero, not-le, le-zero, else-zero, no-interval, interval-zero, zero-of, none-weighs}
-use Rattle.pipes_coalesce.proofs.Steps.{all-of}
+use Rattle.pipes_coalesce.proofs.Touching.{not-lt, lt-zero, not-le, le-zero, else-zero, no-interval}
+use Rattle.pipes_coalesce.proofs.Touching.{interval-zero, zero-of, none-weighs, above-else}
+use Rattle.pipes_coalesce.proofs.Steps.{all-of, rises-below}
 use Rattle.pipes_coalesce.proofs.Settling.{none-there}
 
 -- ---- sums of filtered and mapped lists
@@ -460,13 +469,13 @@ module _ (c : Coalesce) (olds fresh sent : List Message)
       let later = none-between (now_of c) c.later
       (subst (λ (n : ℕ). weigh (starts_above n) c.later ≡ 0)
       (sym now) s.parts.later_low) s.settled.later_gone in (
-        held-none (s.settled.passed alone) alone
+        held-none (s.settled.blocked.passed alone) alone
             (s.settled.partners_gone (omega (arith, now, opened))) later,
         omega (arith, s.sent_beat, now, fresh-beat),
       )
 
   both-ended : HasEnded olds → HasEnded fresh → HasEnded sent × (held_of c ≡ 0)
-  both-ended h k = (ended, held-none (s.settled.passed alone) alone partners later)
+  both-ended h k = (ended, held-none (s.settled.blocked.passed alone) alone partners later)
     where
       g : c.fresh_watch.beat ≡ closed
       g = fresh-beat ∙ beat-ended fresh s.fresh_valid k
@@ -498,6 +507,99 @@ module _ (c : Coalesce) (olds fresh sent : List Message)
       later = none-after (now_of c) b c.later
           (omega (arith, now)) s.parts.later_rise s.settled.later_gone
 
+  -- ---- what is held of either side
+  abbrev held-old : List Elem
+  held-old = c.olds ++ c.lone
+
+  abbrev held-fresh : List Elem
+  held-fresh = c.partners ++ c.later
+
+  sides-rest : rest ≡ held-old ++ held-fresh
+  sides-rest = sym (append_assoc c.olds c.lone held-fresh)
+
+  held-is : held_of c ≡ length held-old + length held-fresh
+  held-is = omega (arith, length-append c.olds c.lone, length-append c.partners c.later)
+
+  held-ends : weigh (ends_above c.split) held-old ≡ 0
+  held-ends =
+      let f = ends_above c.split in
+      let g = ends_elsewhere c.split in
+      let le : (x : Elem) → f x ≤ g x = λ x. above-else c.split x.span.end in
+      omega (
+        arith,
+        weigh-append f c.olds c.lone,
+        s.parts.olds_end,
+        zero-of f g c.lone le s.parts.lone_end,
+      )
+
+  below-by : (n m : ℕ) → if_so (nat_lt n m) ≤ if_so (nat_le n m)
+  below-by n m = grind (arith, nat_tests)
+
+  held-starts : weigh (starts_below c.split) held-fresh ≡ 0
+  held-starts =
+      let f = starts_below c.split in
+      let le : (x : Elem) → f x ≤ starts_by c.split x = λ x. below-by x.span.start c.split in
+      omega (
+        arith,
+        weigh-append f c.partners c.later,
+        all-start c.split c.split c.partners (omega arith) s.parts.partners_at,
+        zero-of f (starts_by c.split) c.later le s.parts.later_high,
+      )
+
+  waits-sent : beat fresh ≤ c.split → weigh (ends_at c.split) ss ≡ 0
+  waits-sent h = s.parts.early (omega (arith, h, fresh-beat))
+
+  none-waits : c.split < beat fresh → held-old ≡ []
+  none-waits h =
+      let alone = s.settled.opened (omega (arith, h, fresh-beat)) in
+      rw (s.settled.blocked.passed alone, alone) refl
+
+  -- ---- how far it is
+  least-above : (n : ℕ) (xs ys : List Elem) → n ≤ closed → RisesFrom n xs
+      → least_start ys ≡ n → least_start (xs ++ ys) ≡ n
+  least-above n [] ys h r is = is
+  least-above n (x ∷ xs) ys h r is =
+      omega (
+        arith,
+        r.0,
+        is,
+        least-above n xs ys h (rises-below n x.span.start xs r.0 r.2) is,
+      )
+
+  least-at : (n : ℕ) (x : Elem) (xs : List Elem) → weigh (starts_elsewhere n) (x ∷ xs) ≡ 0
+      → weigh is_no_interval (x ∷ xs) ≡ 0 → least_start (x ∷ xs) ≡ n
+  least-at n x [] z w =
+      let at : x.span.start ≡ n = else-zero x.span.start n (omega (arith, z)) in
+      let i = interval-zero x.span.start x.span.end (omega (arith, w)) in
+      omega (arith, at, i.0, i.1)
+  least-at n x (y ∷ ys) z w =
+      let at : x.span.start ≡ n = else-zero x.span.start n (omega (arith, z)) in
+      omega (arith, at, least-at n y ys (omega (arith, z)) (omega (arith, w)))
+
+  low-closed : (n : ℕ) (x : Elem) (xs : List Elem) → weigh (starts_elsewhere n) (x ∷ xs) ≡ 0
+      → weigh is_no_interval (x ∷ xs) ≡ 0 → n ≤ closed
+  low-closed n x xs z w =
+      let at : x.span.start ≡ n = else-zero x.span.start n (omega (arith, z)) in
+      let i = interval-zero x.span.start x.span.end (omega (arith, w)) in
+      omega (arith, at, i.0, i.1)
+
+  least-old : least_start held-old ≡ lone_from c.lone c.lone_start
+  least-old =
+      by c.lone s.settled.blocked.passed s.parts.lone_low s.parts.lone_at s.parts.lone_are
+    where
+      by : (ls : List Elem) → (ls ≡ [] → c.olds ≡ [])
+          → (0 < number ls → (b ≤ c.lone_start) × (c.lone_start ≤ c.old_watch.beat)
+          × (c.lone_start < c.split) × RisesFrom c.lone_start c.olds)
+          → weigh (starts_elsewhere c.lone_start) ls ≡ 0 → weigh is_no_interval ls ≡ 0
+          → least_start (c.olds ++ ls) ≡ lone_from ls c.lone_start
+      by [] passed near z w = ap (λ (es : List Elem). least_start (es ++ [])) (passed refl)
+      by (x ∷ xs) passed near z w =
+          least-above c.lone_start c.olds (x ∷ xs) (low-closed c.lone_start x xs z w)
+          (near (omega arith)).3 (least-at c.lone_start x xs z w)
+
+  beat-is : b ≡ min (beat olds) (min (least_start held-old) (max c.split (beat fresh)))
+  beat-is = s.sent_beat ∙ rw (old-beat, fresh-beat, least-old) refl
+
   -- ---- what could go was sent
   all-later : (n m : ℕ) (es : List Elem) → n < m → weigh (starts_elsewhere m) es ≡ 0
       → weigh (starts_by n) es ≡ 0
@@ -510,15 +612,66 @@ module _ (c : Coalesce) (olds fresh sent : List Message)
         all-later n m es h (omega (arith, z)),
       )
 
-  prompt : c.split < beat fresh → weigh (starts_by b) rest ≡ 0
-  prompt k =
-      let alone = s.settled.opened (omega (arith, k, fresh-beat)) in
+  rises-later : (n m : ℕ) (es : List Elem) → n < m → RisesFrom m es → weigh (starts_by n) es ≡ 0
+  rises-later n m [] h r = refl
+  rises-later n m (e ∷ es) h r =
+      omega (
+        arith,
+        not-le e.span.start n (omega (arith, h, r.0)),
+        rises-later n e.span.start es (omega (arith, h, r.0)) r.2,
+      )
+
+  rises-ahead : (n m : ℕ) (es : List Elem) → n ≤ m → RisesFrom m es → FirstElsewhere m es
+      → weigh (starts_by n) es ≡ 0
+  rises-ahead n m [] h r ne = refl
+  rises-ahead n m (e ∷ es) h r ne =
+      let after : m < e.span.start = omega (arith, r.0, ne) in
+      omega (
+        arith,
+        not-le e.span.start n (omega (arith, h, after)),
+        rises-later n e.span.start es (omega (arith, h, after)) r.2,
+      )
+
+  olds-ahead : weigh (starts_by b) c.olds ≡ 0
+  olds-ahead = by (some-of c.lone)
+    where
+      by : (c.lone ≡ []) ⊎ (0 < number c.lone) → weigh (starts_by b) c.olds ≡ 0
+      by (inl none) = ap (weigh (starts_by b)) (s.settled.blocked.passed none)
+      by (inr some) =
+          let low = s.parts.lone_low some in
+          rises-ahead b c.lone_start c.olds low.0 low.3 s.settled.blocked.ahead
+
+  goes-by : (t n x y : ℕ)
+      → if_so (nat_le y n && not (eqb x t)) ≤ if_so (nat_le y n)
+  goes-by t n x y = grind (arith, nat_tests)
+
+  goes-elsewhere : (t n x y : ℕ)
+      → if_so (nat_le y n && not (eqb x t)) ≤ cond {A = ℕ} (eqb x t) 0 1
+  goes-elsewhere t n x y = grind (arith, nat_tests)
+
+  prompt-old : weigh (goes_by c.split b) held-old ≡ 0
+  prompt-old =
+      let f = goes_by c.split b in
+      omega (
+        arith,
+        weigh-append f c.olds c.lone,
+        zero-of f (starts_by b) c.olds (λ x. goes-by c.split b x.span.end x.span.start) olds-ahead,
+        zero-of f (ends_elsewhere c.split) c.lone
+            (λ x. goes-elsewhere c.split b x.span.end x.span.start)
+            s.parts.lone_end,
+      )
+
+  prompt-fresh : weigh (starts_by b) held-fresh ≡ 0
+  prompt-fresh =
       let f = starts_by b in
-      let x : weigh f c.olds ≡ 0 = ap (weigh f) (s.settled.passed alone) in
-      let y : weigh f c.lone ≡ 0 = ap (weigh f) alone in
-      let z : weigh f c.later ≡ 0 = subst (λ (n : ℕ). weigh (starts_by n) c.later ≡ 0)
+      let later : weigh f c.later ≡ 0 = subst (λ (n : ℕ). weigh (starts_by n) c.later ≡ 0)
       (sym s.sent_beat) s.settled.later_gone in
-      omega (arith, split-of f, x, y, z, partners (cases_lt (now_of c) c.split))
+      omega (
+        arith,
+        weigh-append f c.partners c.later,
+        later,
+        partners (cases_lt (now_of c) c.split),
+      )
     where
       partners : (now_of c < c.split) ⊎ (c.split ≤ now_of c) → weigh (starts_by b) c.partners ≡ 0
       partners (inl q) =
@@ -591,20 +744,28 @@ module _ (c : Coalesce) (olds fresh sent : List Message)
   pub merged : Merged c.split olds fresh sent (held_of c)
   merged = record {
     valid = s.sent_valid;
-    rest = rest;
-    rest_held = none-held;
-    outcome = outcome-of c.split os fs (ss ++ rest) s.parts.bags spans-all;
+    held_old = held-old;
+    held_fresh = held-fresh;
+    held_is = held-is;
+    held_ends = held-ends;
+    held_starts = held-starts;
+    outcome = subst (λ (es : List Elem). Outcome c.split os fs (ss ++ es)) sides-rest
+        (outcome-of c.split os fs (ss ++ rest) s.parts.bags spans-all);
     below = λ t h k. below-at t s.fresh_high k (λ tuple. held-zero t b tuple rest h late);
     from = λ t h k. from-at t k (λ tuple. held-zero t b tuple rest h late);
     all_below = λ z t k. below-at t s.fresh_high k
         (λ tuple. ap (weigh (held-at t tuple)) (none-held z));
     all_from = λ z t k. from-at t k (λ tuple. ap (weigh (held-at t tuple)) (none-held z));
     apart = apart-front;
+    beat_is = beat-is;
     beat_old = omega (arith, s.parts.old_beat, old-beat);
     beat_fresh = omega (arith, s.parts.fresh_beat, fresh-beat);
     beat_from = beat-from;
-    late = late;
-    prompt = prompt;
+    waits = waits-sent;
+    waits_no_longer = none-waits;
+    late = subst (λ (es : List Elem). weigh (starts_below b) es ≡ 0) sides-rest late;
+    prompt_old = prompt-old;
+    prompt_fresh = prompt-fresh;
     over = over;
     ended = both-ended;
     starts = starts-kept;

@@ -1,15 +1,19 @@
 -- What is sent once nothing holds it back.
-use Rattle.std.proofs.Common.{◌≡◌, ◌≢◌, ◌⊎◌, ℕ, ◌+◌, ◌≤◌, ◌<◌, max, List, [], ◌∷◌, ◌++◌, refl, sym, ap, ◌∙◌, subst, arith, inl, inr}
+use Rattle.std.proofs.Common.{◌≡◌, ◌≢◌, ◌⊎◌, ℕ, ◌+◌, ◌≤◌, ◌<◌, max, List, [], ◌∷◌, ◌++◌, refl, sym}
+use Rattle.std.proofs.Common.{ap, ◌∙◌, subst, arith, inl, inr}
 use Rattle.pipes_time.specs.Interval.{horizon, IsInterval}
 use Rattle.pipes_stream.specs.declared.Elem.{Elem}
 use Rattle.pipes_coalesce.specs.Bags.{weigh}
-use Rattle.pipes_coalesce.specs.Tests.{starts_above, starts_by, starts_elsewhere, ends_above, ends_at, ends_elsewhere, is_no_interval, touch, touching}
+use Rattle.pipes_coalesce.specs.Tests.{starts_above, starts_by, starts_elsewhere, ends_above}
+use Rattle.pipes_coalesce.specs.Tests.{ends_at, ends_elsewhere, is_no_interval, touch, touching}
 use Rattle.pipes_coalesce.specs.Merging.{Bags}
 use Rattle.pipes_coalesce.specs.Stands.{RisesFrom, number, Parts}
 use Rattle.pipes_coalesce.proofs.Weights.{weigh-append, weigh-none}
-use Rattle.pipes_coalesce.proofs.Touching.{not-lt, lt-zero, le-zero, not-eq, zero-of, none-weighs, touching-same, touching-across}
+use Rattle.pipes_coalesce.proofs.Touching.{not-lt, lt-zero, le-zero, not-eq, zero-of, none-weighs}
+use Rattle.pipes_coalesce.proofs.Touching.{touching-same, touching-across}
 use Rattle.pipes_coalesce.proofs.Pairs.{bags-same}
-use Rattle.pipes_coalesce.proofs.Steps.{rises-below, rises-above, all-of, near-of, push-of, sent-low}
+use Rattle.pipes_coalesce.proofs.Steps.{rises-below, rises-above, all-of, near-of, push-of}
+use Rattle.pipes_coalesce.proofs.Steps.{sent-low}
 
 -- elements that all start at s
 not-above : (s : ℕ) (xs : List Elem) → weigh (starts_elsewhere s) xs ≡ 0

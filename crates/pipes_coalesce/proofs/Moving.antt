@@ -1,5 +1,7 @@
 -- Steps of a Coalesce, by the messages that they send.
-use Rattle.std.proofs.Common.{◌≡◌, ℕ, ◌+◌, ◌≤◌, ◌<◌, true, false, Result, Ok, Err, List, [], ◌∷◌, ◌++◌, map, refl, sym, ap, ◌∙◌, subst, arith, append_assoc, append-nil, inl, inr, ◌⊎◌}
+use Rattle.std.proofs.Common.{◌≡◌, ℕ, ◌+◌, ◌≤◌, ◌<◌, true, false, Result, Ok, Err, List, [], ◌∷◌}
+use Rattle.std.proofs.Common.{◌++◌, map, refl, sym, ap, ◌∙◌, subst, arith, append_assoc, append-nil}
+use Rattle.std.proofs.Common.{inl, inr, ◌⊎◌}
 use Rattle.std.proofs.lemmas.Bool.{cases_lt}
 use Rattle.std.specs.Prelude.{OnOk}
 use Rattle.pipes_time.specs.Interval.{IsInterval}
@@ -8,7 +10,8 @@ use Rattle.pipes_stream.specs.declared.message.Message.{Message}
 use Rattle.pipes_stream.specs.declared.message.Message.TheVariants as message
 use Rattle.pipes_stream.specs.Progress.{Progress}
 use Rattle.pipes_stream.specs.Lists.{CanFollow, after, run, start_of_list, Valid, beat, elements}
-use Rattle.pipes_stream.proofs.Messages.{run-push, run-append, valid-push, valid-append, elements-append, elements-map}
+use Rattle.pipes_stream.proofs.Messages.{run-push, run-append, valid-push, valid-append}
+use Rattle.pipes_stream.proofs.Messages.{elements-append, elements-map}
 use Rattle.pipes_coalesce.specs.Bags.{weigh}
 use Rattle.pipes_coalesce.specs.Tests.{starts_below, ends_above}
 use Rattle.pipes_coalesce.specs.Tests.{starts_elsewhere, is_no_interval}
@@ -110,7 +113,7 @@ stays-then c d e a b = record {
   fresh_watch = b.fresh_watch ∙ a.fresh_watch;
 }
 
--- one step behind another
+-- one step after another
 abbrev pub moves-then : (c d e : Coalesce) (w v u : List Elem) (before mid now : List Message)
     → Moves c d w v before mid → Moves d e v u mid now → Moves c e w u before now
 moves-then c d e w v u before mid now a b = record {

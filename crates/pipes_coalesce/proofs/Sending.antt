@@ -1,5 +1,6 @@
 -- What is sent once nothing holds it back, by the calls.
-use Rattle.std.proofs.Common.{◌≡◌, ℕ, ◌+◌, ◌≤◌, ◌<◌, max, min, List, [], ◌∷◌, ◌++◌, map, refl, sym, ap, ◌∙◌, subst, arith, inl, inr, ◌⊎◌}
+use Rattle.std.proofs.Common.{◌≡◌, ℕ, ◌+◌, ◌≤◌, ◌<◌, max, min, List, [], ◌∷◌, ◌++◌, map, refl, sym}
+use Rattle.std.proofs.Common.{ap, ◌∙◌, subst, arith, inl, inr, ◌⊎◌}
 use Rattle.std.proofs.lemmas.Bool.{cases_lt}
 use Rattle.pipes_time.specs.Interval.{closed}
 use Rattle.pipes_stream.specs.declared.Elem.{Elem}
@@ -10,11 +11,13 @@ use Rattle.pipes_stream.specs.Lists.{run, start_of_list, beat, elements}
 use Rattle.pipes_stream.proofs.Messages.{run-push}
 use Rattle.pipes_coalesce.specs.Bags.{weigh}
 use Rattle.pipes_coalesce.specs.Tests.{starts_elsewhere, is_no_interval}
-use Rattle.pipes_coalesce.specs.Stands.{number, lone_from, now_of, Parts, Flows, Stays, Moves, SameBut, IsBlocked, IsDue, Releases}
+use Rattle.pipes_coalesce.specs.Stands.{number, lone_from, now_of, Parts, Flows, Stays, Moves}
+use Rattle.pipes_coalesce.specs.Stands.{SameBut, IsBlocked, IsDue, Releases}
 use Rattle.pipes_coalesce.specs.declared.merge.Coalesce.{Coalesce}
 use Rattle.pipes_coalesce.proofs.Touching.{le-zero}
 use Rattle.pipes_coalesce.proofs.Leaving.{lone-leaves, partners-leave, later-leaves}
-use Rattle.pipes_coalesce.proofs.Moving.{Sends, Keeps, SendsMany, ManyGo, moves-one, moves-many, moves-then, none-is}
+use Rattle.pipes_coalesce.proofs.Moving.{Sends, Keeps, SendsMany, ManyGo, moves-one, moves-many}
+use Rattle.pipes_coalesce.proofs.Moving.{moves-then, none-is}
 
 -- all but the old elements that have no partner
 pub record SameButLone (c d : Coalesce) : Type 0 where
@@ -110,7 +113,7 @@ partners-go c d xs before now y gone h blocked w is =
     sends : SendsMany c d c.olds d.olds xs c.split
     sends = record { none = keeps; some = goes }
 
--- the heartbeat behind elements that all start at or below the instant
+-- the heartbeat after elements that all start at or below the instant
 many-within : (p : Progress) (s at : ℕ) (xs : List Elem) → weigh (starts_elsewhere s) xs ≡ 0
     → s ≤ at → p.beat ≤ at → (run p (map message.Elem xs)).beat ≤ at
 many-within p s at [] z h k = k
@@ -199,7 +202,10 @@ module _ (c d : Coalesce) (at : ℕ) (x : Elem) (is : IsDue c d at x) where
       (is.stays.old_watch, is.stays.fresh_watch, is.stays.split, is.lone, is.lone_start) h
 
   pub due-blocked : IsBlocked c → IsBlocked d
-  due-blocked b = record { passed = λ k. is.olds ∙ b.passed (sym is.lone ∙ k) }
+  due-blocked b = record {
+    passed = λ k. is.olds ∙ b.passed (sym is.lone ∙ k);
+    ahead = rw (is.lone_start, is.olds) b.ahead;
+  }
 
   pub due-gone : (c.split ≤ at → c.partners ≡ []) → d.split ≤ at → d.partners ≡ []
   due-gone gone h = is.partners ∙ gone (rw (sym is.stays.split) h)

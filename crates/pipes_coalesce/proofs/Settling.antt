@@ -1,25 +1,34 @@
--- The end of a call: all that can go was sent, and how far it is was told.
-use Rattle.std.proofs.Common.{◌≡◌, ◌≢◌, ℕ, suc, ◌+◌, ◌≤◌, ◌<◌, max, min, Bool, true, false, cond, nat_lt, ◌&&◌, List, [], ◌∷◌, ◌++◌, refl, sym, ap, ◌∙◌, subst, arith, inl, inr, ◌⊎◌, append-nil, append_assoc}
+-- The end of a call: all that can go was sent, and then how far that is.
+use Rattle.std.proofs.Common.{◌≡◌, ◌≢◌, ℕ, suc, ◌+◌, ◌≤◌, ◌<◌, max, min, Bool, true, false, cond}
+use Rattle.std.proofs.Common.{nat_lt, ◌&&◌, List, [], ◌∷◌, ◌++◌, refl, sym, ap, ◌∙◌, subst, arith}
+use Rattle.std.proofs.Common.{inl, inr, ◌⊎◌, append-nil, append_assoc}
 use Rattle.std.proofs.lemmas.Bool.{cases_lt, false≢true, leb-false}
 use Rattle.pipes_time.specs.Interval.{closed, horizon, IsInterval}
 use Rattle.pipes_stream.specs.declared.Elem.{Elem}
 use Rattle.pipes_stream.specs.declared.message.Message.{Message}
 use Rattle.pipes_stream.specs.declared.message.Message.TheVariants as message
 use Rattle.pipes_stream.specs.Progress.{Progress}
-use Rattle.pipes_stream.specs.Lists.{CanFollow, after, run, start_of_list, ValidFrom, Valid, beat, elements, HasEnded}
-use Rattle.pipes_stream.proofs.Messages.{run-append, run-rises, valid-append, valid-suffix, valid-prefix, elements-append, beat-closed, beat-ended}
+use Rattle.pipes_stream.specs.Lists.{CanFollow, after, run, start_of_list, ValidFrom, Valid, beat}
+use Rattle.pipes_stream.specs.Lists.{elements, HasEnded}
+use Rattle.pipes_stream.proofs.Messages.{run-append, run-rises, valid-append, valid-suffix}
+use Rattle.pipes_stream.proofs.Messages.{valid-prefix, elements-append, beat-closed, beat-ended}
 use Rattle.pipes_coalesce.specs.Bags.{weigh}
 use Rattle.pipes_coalesce.specs.Tests.{starts_above, starts_by, ends_elsewhere, is_no_interval}
 use Rattle.pipes_coalesce.specs.Filed.{StartsLater}
-use Rattle.pipes_coalesce.specs.Stands.{RisesFrom, number, lone_from, now_of, Parts, Flows, IsSettled, CoalesceStands, Stays, Moves, SameBut, IsBlocked, Releases, tell, Settles}
-use Rattle.pipes_coalesce.specs.Stands.{EndsBy, StartsFrom, AdmitsOld, AdmitsFresh, TakesOld, TakesFresh, HandsOver}
+use Rattle.pipes_coalesce.specs.Stands.{RisesFrom, number, lone_from, now_of, Parts, Flows}
+use Rattle.pipes_coalesce.specs.Stands.{IsSettled, CoalesceStands, Stays, Moves, SameBut, IsBlocked}
+use Rattle.pipes_coalesce.specs.Stands.{Releases, tell, Settles}
+use Rattle.pipes_coalesce.specs.Stands.{EndsBy, StartsFrom, AdmitsOld, AdmitsFresh, TakesOld}
+use Rattle.pipes_coalesce.specs.Stands.{TakesFresh, HandsOver, Admits, Takes}
 use Rattle.pipes_coalesce.specs.declared.merge.Coalesce.{Coalesce}
+use Rattle.pipes_coalesce.specs.declared.merge.Side.{Side}
+use Rattle.pipes_coalesce.specs.declared.merge.Side.TheVariants as side
 use Rattle.pipes_coalesce.proofs.Touching.{not-le, else-zero, interval-zero}
 use Rattle.pipes_coalesce.proofs.Steps.{rises-below, sent-low}
 use Rattle.pipes_coalesce.proofs.Moving.{moves-then, stays-then}
 use Rattle.pipes_coalesce.proofs.Sending.{some-lone}
 
--- ---- the level of what was sent
+-- ---- how far what was sent is
 later-from : (n b : ℕ) (es : List Elem) → StartsLater n es → RisesFrom b es → RisesFrom n es
 later-from n b [] h r = tt
 later-from n b (e ∷ es) h r = (omega (arith, h), r.1, r.2)
@@ -110,28 +119,30 @@ beat-grows xs ys v =
     (beat-closed xs (valid-prefix start_of_list xs ys v)) in
     omega (arith, r, a.0)
 
--- ---- what is told
+-- ---- the message after the elements
 record Tells (p : Progress) (now : ℕ) (over : Bool) (ms : List Message) : Type 0 where
   valid : ValidFrom p ms
   beat : (run p ms).beat ≡ now
   ended : (run p ms).ended ≡ over
   none : elements ms ≡ []
 
-tells-late : (r : Bool) (p : Progress) (told now : ℕ) → nat_lt told now ≡ r → p.ended ≡ false
-    → told ≤ p.beat → p.beat ≤ now → now ≤ closed
+tells-late : (r : Bool) (p : Progress) (beat_sent now : ℕ) → nat_lt beat_sent now ≡ r
+    → p.ended ≡ false
+    → beat_sent ≤ p.beat → p.beat ≤ now → now ≤ closed
     → Tells p now false (cond r (message.Beat now ∷ []) [])
-tells-late true p told now h o q r s =
+tells-late true p beat_sent now h o q r s =
     record { valid = ((o, r, s), tt); beat = refl; ended = o; none = refl }
-tells-late false p told now h o q r s =
-    let k : now < suc told = leb-false (suc told) now h in
+tells-late false p beat_sent now h o q r s =
+    let k : now < suc beat_sent = leb-false (suc beat_sent) now h in
     record { valid = tt; beat = omega (arith, k, q, r); ended = o; none = refl }
 
-tells : (ended : Bool) (p : Progress) (told now : ℕ) → p.ended ≡ false → told ≤ p.beat
+tells : (ended : Bool) (p : Progress) (beat_sent now : ℕ) → p.ended ≡ false → beat_sent ≤ p.beat
     → p.beat ≤ now → now ≤ closed → (ended ≡ true → now ≡ closed)
-    → Tells p now ended (tell told now ended)
-tells true p told now o q r s e =
+    → Tells p now ended (tell beat_sent now ended)
+tells true p beat_sent now o q r s e =
     record { valid = (o, tt); beat = sym (e refl); ended = refl; none = refl }
-tells false p told now o q r s e = tells-late (nat_lt told now) p told now refl o q r s
+tells false p beat_sent now o q r s e = tells-late (nat_lt beat_sent now) p beat_sent now refl o q r
+    s
 
 both-true : (a b : Bool) → (a && b) ≡ true → (a ≡ true) × (b ≡ true)
 both-true true true h = (refl, refl)
@@ -170,7 +181,7 @@ at-end c olds fresh sent f opened h =
 pub record AllSent (d : Coalesce) (at : ℕ) : Type 0 where
   pub now : at ≡ now_of d
   pub opened : d.split < d.fresh_watch.beat → d.lone ≡ []
-  pub passed : d.lone ≡ [] → d.olds ≡ []
+  pub blocked : IsBlocked d
   pub partners_gone : d.split ≤ at → d.partners ≡ []
   pub late : StartsLater at d.later
 
@@ -182,15 +193,16 @@ partners-wait t at partners gone q = by (cases_lt at t)
     by (inl h) = omega (arith, h)
     by (inr h) = let z : number partners ≡ 0 = ap number (gone h) in absurd (omega (arith, z, q))
 
-pub told-stands : (d : Coalesce) (at told : ℕ) (olds fresh sent : List Message)
-    → Flows d d.olds olds fresh sent → AllSent d at → told ≤ beat sent → beat sent ≤ at
-    → CoalesceStands d olds fresh (sent ++ tell told at (d.old_watch.ended && d.fresh_watch.ended))
-told-stands d at told olds fresh sent f a h k =
+pub sent-stands : (d : Coalesce) (at beat_sent : ℕ) (olds fresh sent : List Message)
+    → Flows d d.olds olds fresh sent → AllSent d at → beat_sent ≤ beat sent → beat sent ≤ at
+    → CoalesceStands d olds fresh (sent ++ tell beat_sent at
+    (d.old_watch.ended && d.fresh_watch.ended))
+sent-stands d at beat_sent olds fresh sent f a h k =
     let over : Bool = d.old_watch.ended && d.fresh_watch.ended in
-    let more : List Message = tell told at over in
+    let more : List Message = tell beat_sent at over in
     let u : Progress = run start_of_list sent in
     let oc = old-closed d d.olds olds fresh sent f in
-    let ts = tells over u told at f.unended h k (omega (arith, a.now, oc))
+    let ts = tells over u beat_sent at f.unended h k (omega (arith, a.now, oc))
     (λ q. a.now ∙ at-end d olds fresh sent f a.opened q) in
     let run-is = run-append start_of_list sent more in
     let there : beat (sent ++ more) ≡ at = ap (λ (p : Progress). p.beat) run-is ∙ ts.beat in
@@ -200,7 +212,7 @@ told-stands d at told olds fresh sent f a h k =
     let p = level-rises d.split d.old_watch.beat d.fresh_watch.beat
     (beat sent) d.lone_start d.olds d.lone d.partners d.later (elements olds) (elements fresh)
     (elements sent) f.parts at k (omega (arith, a.now)) (omega (arith, a.now))
-    (lone-start d.lone d.lone_start at (omega (arith, a.now))) a.passed
+    (lone-start d.lone d.lone_start at (omega (arith, a.now))) a.blocked.passed
     (partners-wait d.split at d.partners a.partners_gone) a.late in
     record {
       going = f.going;
@@ -216,23 +228,23 @@ told-stands d at told olds fresh sent f a h k =
       parts = rw (there, elems) p;
       settled = record {
         opened = a.opened;
-        passed = a.passed;
+        blocked = a.blocked;
         partners_gone = λ q. a.partners_gone (omega (arith, q, a.now));
         later_gone = subst (λ (n : ℕ). weigh (starts_by n) d.later ≡ 0) a.now
             (later-none at (beat sent) d.later a.late f.parts.later_rise);
       };
     }
 
--- ---- the steps of the end one behind another
-pub settles : (c e f g d : Coalesce) (at told : ℕ) (before b1 b2 b3 b4 now : List Message)
+-- ---- the steps of the end one after another
+pub settles : (c e f g d : Coalesce) (at beat_sent : ℕ) (before b1 b2 b3 b4 now : List Message)
     → Moves c e c.olds e.olds before b1
     → (c.split < c.fresh_watch.beat → e.lone ≡ []) → Moves e f e.olds f.olds b1 b2 → IsBlocked f
     → at ≡ now_of f → Releases f g at b2 b3
     → (f.split ≤ at → g.partners ≡ []) → Releases g d at b3 b4 → d.partners ≡ g.partners
     → StartsLater at d.later
-    → now ≡ b4 ++ tell told at (d.old_watch.ended && d.fresh_watch.ended)
-    → Settles c d told before now
-settles c e f g d at told before b1 b2 b3 b4 now m1 gone m2 blocked is r3 g3 r4 p4 late out =
+    → now ≡ b4 ++ tell beat_sent at (d.old_watch.ended && d.fresh_watch.ended)
+    → Settles c d beat_sent before now
+settles c e f g d at beat_sent before b1 b2 b3 b4 now m1 gone m2 blocked is r3 g3 r4 p4 late out =
     let all = moves-then c e d c.olds e.olds d.olds before b1 b4 m1
     (moves-then e f d e.olds f.olds d.olds b1 b2 b4 m2
     (moves-then f g d f.olds g.olds d.olds b2 b3 b4 r3.moves r4.moves)) in
@@ -252,15 +264,18 @@ settles c e f g d at told before b1 b2 b3 b4 now m1 gone m2 blocked is r3 g3 r4 
           let low-e : e.split < e.fresh_watch.beat =
           rw (m1.stays.split, m1.stays.fresh_watch) low in
           lone ∙ m2.opened low-e (gone low);
-      passed = λ h. olds ∙ blocked.passed (sym lone ∙ h);
+      blocked = record {
+        passed = λ h. olds ∙ blocked.passed (sym lone ∙ h);
+        ahead = rw (start, olds) blocked.ahead;
+      };
       partners_gone = λ h. p4 ∙ g3 (omega (arith, h, y.split));
       late = late;
     } in
     record {
       stays = all.stays;
-      more = all.more ++ tell told at over;
-      appended = out ∙ ap (λ (ms : List Message). ms ++ tell told at over) all.appended
-          ∙ append_assoc before all.more (tell told at over);
+      more = all.more ++ tell beat_sent at over;
+      appended = out ∙ ap (λ (ms : List Message). ms ++ tell beat_sent at over) all.appended
+          ∙ append_assoc before all.more (tell beat_sent at over);
       stands = λ os fs ss fl low.
           let f1 = m1.flows os fs ss fl in
           let f2 = m2.flows os fs (ss ++ m1.more) f1 in
@@ -281,8 +296,9 @@ settles c e f g d at told before b1 b2 b3 b4 now m1 gone m2 blocked is r3 g3 r4 
           subst (λ (ms : List Message). beat ms ≤ at) same w4 in
           let up = beat-grows ss all.more fd.sent_valid in
           subst (λ (ms : List Message). CoalesceStands d os fs ms)
-          (append_assoc ss all.more (tell told at over))
-          (told-stands d at told os fs (ss ++ all.more) fd sent-all (omega (arith, low, up)) wd);
+          (append_assoc ss all.more (tell beat_sent at over))
+          (sent-stands d at beat_sent os fs (ss ++ all.more) fd sent-all
+          (omega (arith, low, up)) wd);
     }
 
 -- ---- whole calls
@@ -311,10 +327,10 @@ stands-flows c olds fresh sent s going = record {
   parts = s.parts;
 }
 
-pub takes-old : (c e d : Coalesce) (m : Message) (told : ℕ) (before now : List Message)
-    → told ≡ now_of c → AdmitsOld c e m → Settles e d told before now
+pub takes-old : (c e d : Coalesce) (m : Message) (beat_sent : ℕ) (before now : List Message)
+    → beat_sent ≡ now_of c → AdmitsOld c e m → Settles e d beat_sent before now
     → TakesOld c d m before now
-takes-old c e d m told before now is a s = record {
+takes-old c e d m beat_sent before now is a s = record {
   more = s.more;
   appended = s.appended;
   stands = λ os fs ss st can low.
@@ -324,10 +340,10 @@ takes-old c e d m told before now is a s = record {
       s.stands (os ++ m ∷ []) fs ss f (omega (arith, is, st.sent_beat));
 }
 
-pub takes-fresh : (c e d : Coalesce) (m : Message) (told : ℕ) (before mid now : List Message)
-    → told ≡ now_of c → AdmitsFresh c e m before mid
-    → Settles e d told mid now → TakesFresh c d m before now
-takes-fresh c e d m told before mid now is a s = record {
+pub takes-fresh : (c e d : Coalesce) (m : Message) (beat_sent : ℕ) (before mid now : List Message)
+    → beat_sent ≡ now_of c → AdmitsFresh c e m before mid
+    → Settles e d beat_sent mid now → TakesFresh c d m before now
+takes-fresh c e d m beat_sent before mid now is a s = record {
   more = a.more ++ s.more;
   appended = s.appended ∙ ap (λ (ms : List Message). ms ++ s.more) a.appended
       ∙ append_assoc before a.more s.more;
@@ -340,6 +356,16 @@ takes-fresh c e d m told before mid now is a s = record {
       (append_assoc ss a.more s.more)
       (s.stands os (fs ++ m ∷ []) (ss ++ a.more) f (omega (arith, is, st.sent_beat, up)));
 }
+
+pub takes-side : (s : Side) (c e d : Coalesce) (m : Message) (beat_sent : ℕ)
+    (before mid now : List Message)
+    → beat_sent ≡ now_of c → Admits s c e m before mid → Settles e d beat_sent mid now
+    → Takes s c d m before now
+takes-side side.Old c e d m beat_sent before mid now is a s =
+    takes-old c e d m beat_sent before now is a.0
+    (subst (λ (ms : List Message). Settles e d beat_sent ms now) a.1 s)
+takes-side side.Fresh c e d m beat_sent before mid now is a s =
+    takes-fresh c e d m beat_sent before mid now is a s
 
 -- only the buffer was changed
 pub stands-same : (c d : Coalesce) (olds fresh sent : List Message) → SameBut c d → d.olds ≡ c.olds
@@ -368,7 +394,10 @@ stands-same c d os fs ss y olds s = record {
   ) s.parts;
   settled = record {
     opened = λ h. y.lone ∙ s.settled.opened (rw (sym y.stays.split, sym y.stays.fresh_watch) h);
-    passed = λ h. olds ∙ s.settled.passed (sym y.lone ∙ h);
+    blocked = record {
+      passed = λ h. olds ∙ s.settled.blocked.passed (sym y.lone ∙ h);
+      ahead = rw (y.lone_start, olds) s.settled.blocked.ahead;
+    };
     partners_gone = λ h. y.partners
         ∙ s.settled.partners_gone
         (rw (
@@ -413,3 +442,13 @@ fresh-over c b e d m sent before now y olds t h out = record {
       (t.stands os fs ss (stands-same c b os fs ss y olds st) can
       (subst (λ (n : ℕ). StartsFrom n m) (sym y.stays.split) high));
 }
+
+pub side-over : (s : Side) (c b e d : Coalesce) (m : Message) (none sent before now : List Message)
+    → SameBut c b → b.olds ≡ c.olds → none ≡ [] → Takes s b e m none sent → HandsOver e d
+    → now ≡ before ++ sent → Takes s c d m before now
+side-over side.Old c b e d m none sent before now y olds is t h out =
+    old-over c b e d m sent before now y olds
+    (subst (λ (ms : List Message). TakesOld b e m ms sent) is t) h out
+side-over side.Fresh c b e d m none sent before now y olds is t h out =
+    fresh-over c b e d m sent before now y olds
+    (subst (λ (ms : List Message). TakesFresh b e m ms sent) is t) h out

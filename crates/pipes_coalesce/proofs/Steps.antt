@@ -1,17 +1,25 @@
 -- What each step makes of the parts of a merge.
-use Rattle.std.proofs.Common.{◌≡◌, ◌≢◌, ℕ, zero, suc, ◌+◌, ◌≤◌, ◌<◌, max, List, [], ◌∷◌, ◌++◌, refl, sym, ap, ◌∙◌, subst, arith, inl, inr, ◌⊎◌}
+use Rattle.std.proofs.Common.{◌≡◌, ◌≢◌, ℕ, zero, suc, ◌+◌, ◌≤◌, ◌<◌, max, List, [], ◌∷◌, ◌++◌, refl}
+use Rattle.std.proofs.Common.{sym, ap, ◌∙◌, subst, arith, inl, inr, ◌⊎◌}
 use Rattle.std.proofs.lemmas.Bool.{cases_lt}
 use Rattle.pipes_time.specs.Interval.{horizon, IsInterval}
 use Rattle.pipes_stream.specs.declared.Elem.{Elem}
 use Rattle.pipes_coalesce.specs.Bags.{weigh}
-use Rattle.pipes_coalesce.specs.Tests.{if_so, starts_below, starts_above, starts_by, starts_elsewhere, ends_above, ends_at, ends_elsewhere, is_no_interval, touch, touching}
+use Rattle.pipes_coalesce.specs.Tests.{if_so, starts_below, starts_above, starts_by}
+use Rattle.pipes_coalesce.specs.Tests.{starts_elsewhere, ends_above, ends_at, ends_elsewhere}
+use Rattle.pipes_coalesce.specs.Tests.{is_no_interval, touch, touching}
 use Rattle.pipes_coalesce.specs.Filed.{has_tuple, Added, TakenOut}
 use Rattle.pipes_coalesce.specs.Joined.{IsJoint}
 use Rattle.pipes_coalesce.specs.Merging.{Pairing, IsPairing, Bags}
 use Rattle.pipes_coalesce.specs.Stands.{RisesFrom, number, Parts}
 use Rattle.pipes_coalesce.proofs.Weights.{weigh-append, weigh-none}
-use Rattle.pipes_coalesce.proofs.Touching.{not-lt, is-lt, lt-zero, not-le, le-zero, not-eq, is-else, else-zero, no-interval, interval-zero, above-more, zero-of, none-weighs}
-use Rattle.pipes_coalesce.proofs.Touching.{end-apart, start-apart, touch-tuple, touched-tuple, touch-end, touch-later, touch-elsewhere, touch-spans, touching-more, touching-less, touching-same, touching-across}
+use Rattle.pipes_coalesce.proofs.Touching.{not-lt, is-lt, lt-zero, not-le, le-zero, not-eq, is-else}
+use Rattle.pipes_coalesce.proofs.Touching.{else-zero, no-interval, interval-zero, above-more}
+use Rattle.pipes_coalesce.proofs.Touching.{zero-of, none-weighs}
+use Rattle.pipes_coalesce.proofs.Touching.{end-apart, start-apart, touch-tuple, touched-tuple}
+use Rattle.pipes_coalesce.proofs.Touching.{touch-end, touch-later, touch-elsewhere, touch-spans}
+use Rattle.pipes_coalesce.proofs.Touching.{touching-more, touching-less, touching-same}
+use Rattle.pipes_coalesce.proofs.Touching.{touching-across}
 use Rattle.pipes_coalesce.proofs.Pairs.{bags-same, bags-old, bags-fresh, bags-pair}
 
 -- ---- lists in order

@@ -1,5 +1,6 @@
 -- Elements in queues by their tuple. Only private functions use these.
-use Rattle.std.specs.Prelude.{ℕ, zero, suc, ◌≡◌, ◌≤◌, ◌<◌, ◌+◌, cond, List, [], ◌∷◌, ◌++◌, map, length, Option, Some, None, ⊤}
+use Rattle.std.specs.Prelude.{ℕ, zero, suc, ◌≡◌, ◌≢◌, ◌≤◌, ◌<◌, ◌+◌, cond, List, [], ◌∷◌, ◌++◌, map}
+use Rattle.std.specs.Prelude.{length, Option, Some, None, ⊤}
 use Rattle.pipes_tuple.specs.declared.value.Value.{Value}
 use Rattle.pipes_tuple.specs.Equal.{tuple_eq}
 use Rattle.pipes_stream.specs.declared.Elem.{Elem}
@@ -51,7 +52,7 @@ pub record QueueOut (queue old new : List Elem) : Type 0 where
   pub weights : (f : Elem → ℕ) → weigh f old ≡ weigh f queue + weigh f new
   pub fewer : length new < length old
 
--- the elements were put behind what was sent, in some order
+-- the elements were put after what was sent, in some order
 pub record SendsAll (elems : List Elem) (before now : List Message) : Type 0 where
   pub sent : List Elem
   pub appended : now ≡ before ++ map message.Elem sent
@@ -61,6 +62,11 @@ pub record SendsAll (elems : List Elem) (before now : List Message) : Type 0 whe
 abbrev pub FirstStarts : ℕ → List Elem → Type 0
 FirstStarts s [] = ⊥
 FirstStarts s (e ∷ es) = e.span.start ≡ s
+
+-- the first doesn't start at the instant, if there is one
+abbrev pub FirstElsewhere : ℕ → List Elem → Type 0
+FirstElsewhere s [] = ⊤
+FirstElsewhere s (e ∷ es) = e.span.start ≢ s
 
 -- the first starts after the instant, if there is one
 abbrev pub StartsLater : ℕ → List Elem → Type 0

@@ -1,17 +1,23 @@
 -- What a Coalesce stands for, and what its calls do.
-use Rattle.std.specs.Prelude.{ℕ, ◌≡◌, ◌≤◌, ◌<◌, ◌+◌, ◌⊎◌, Bool, true, false, cond, nat_lt, ◌&&◌, max, min, List, [], ◌∷◌, ◌++◌, length, ⊤}
+use Rattle.std.specs.Prelude.{ℕ, ◌≡◌, ◌≤◌, ◌<◌, ◌+◌, ◌⊎◌, Bool, true, false, cond, nat_lt, ◌&&◌}
+use Rattle.std.specs.Prelude.{max, min, List, [], ◌∷◌, ◌++◌, length, ⊤, ◌↔◌, IsTrue}
 use Rattle.pipes_time.specs.Interval.{closed, IsInterval}
 use Rattle.pipes_tuple.specs.declared.value.Value.{Value}
 use Rattle.pipes_stream.specs.declared.Elem.{Elem}
 use Rattle.pipes_stream.specs.declared.message.Message.{Message}
 use Rattle.pipes_stream.specs.declared.message.Message.TheVariants as message
 use Rattle.pipes_stream.specs.Lists.{CanFollow, after, run, start_of_list, Valid, beat, elements}
+use Rattle.pipes_stream.specs.Lists.{HasEnded}
 use Rattle.pipes_coalesce.specs.Bags.{weigh}
-use Rattle.pipes_coalesce.specs.Tests.{if_so, starts_below, starts_above, starts_by, starts_elsewhere, ends_above, ends_at, ends_elsewhere, is_no_interval, touching}
-use Rattle.pipes_coalesce.specs.Filed.{has_tuple}
+use Rattle.pipes_coalesce.specs.Tests.{if_so, starts_below, starts_above, starts_by}
+use Rattle.pipes_coalesce.specs.Tests.{starts_elsewhere, ends_above, ends_at, ends_elsewhere}
+use Rattle.pipes_coalesce.specs.Tests.{is_no_interval, touching}
+use Rattle.pipes_coalesce.specs.Filed.{has_tuple, FirstElsewhere}
 use Rattle.pipes_coalesce.specs.Merging.{Bags}
 use Rattle.pipes_coalesce.specs.Merged.{Merged}
 use Rattle.pipes_coalesce.specs.declared.merge.Coalesce.{Coalesce}
+use Rattle.pipes_coalesce.specs.declared.merge.Side.{Side}
+use Rattle.pipes_coalesce.specs.declared.merge.Side.TheVariants as side
 
 -- an old element ends at or below the split, and a fresh one starts at or above it
 abbrev pub EndsBy : ℕ → Message → Type 0
@@ -29,18 +35,13 @@ lone_from [] s = closed
 lone_from (e ∷ es) s = s
 
 -- The heartbeat: the least of the old side's, of the start of the old elements that wait for a
--- partner, and of the greater of the
--- split and the fresh side's.
+-- partner, and of the greater of the split and the fresh side's.
 abbrev pub now_of : Coalesce → ℕ
 now_of c = min c.old_watch.beat
     (min (lone_from c.lone c.lone_start) (max c.split c.fresh_watch.beat))
 
 abbrev pub held_of : Coalesce → ℕ
 held_of c = length c.olds + (length c.lone + (length c.partners + length c.later))
-
-abbrev pub IsOver : Coalesce → Type 0
-IsOver c = (c.old_watch.ended ≡ true)
-    × ((c.split < c.fresh_watch.beat) ⊎ (c.fresh_watch.ended ≡ true)) × (held_of c ≡ 0)
 
 -- The sent list is the old one before the split and the fresh one from it on, for all lists for
 -- which the Coalesce stands.
@@ -58,10 +59,9 @@ RisesFrom b (e ∷ es) = (b ≤ e.span.start) × IsInterval e.span.start e.span.
 abbrev pub number : List Elem → ℕ
 number es = weigh (λ _. 1) es
 
--- The old elements `olds` wait behind those of `lone`, which wait for a partner and all start at s.
--- The fresh elements `partners`
--- start at the split and `later` above it. The sides' heartbeats are ob and fb, and that of what
--- was sent is b.
+-- The old elements `lone` wait for a partner and all start at s, and the old elements `olds` wait
+-- for those. The fresh elements `partners` start at the split and `later` above it. The sides'
+-- heartbeats are ob and fb, and that of what was sent is b.
 pub record Parts (split ob fb b s : ℕ)
     (olds lone partners later old_ones fresh_ones sent : List Elem) : Type 0 where
   pub old_beat : b ≤ ob
@@ -100,10 +100,15 @@ pub record Flows (c : Coalesce) (waiting : List Elem)
       (beat sent) c.lone_start waiting c.lone c.partners c.later
       (elements olds) (elements fresh) (elements sent)
 
+-- No old element can pass: none waits, or the first starts after those without a partner.
+pub record IsBlocked (c : Coalesce) : Type 0 where
+  pub passed : c.lone ≡ [] → c.olds ≡ []
+  pub ahead : FirstElsewhere c.lone_start c.olds
+
 -- What could go was sent.
 pub record IsSettled (c : Coalesce) : Type 0 where
   pub opened : c.split < c.fresh_watch.beat → c.lone ≡ []
-  pub passed : c.lone ≡ [] → c.olds ≡ []
+  pub blocked : IsBlocked c
   pub partners_gone : c.split ≤ now_of c → c.partners ≡ []
   pub later_gone : weigh (starts_by (now_of c)) c.later ≡ 0
 
@@ -136,14 +141,28 @@ pub record CoalesceStands (c : Coalesce) (olds fresh sent : List Message) : Type
 abbrev pub IsMerged : Coalesce → Type 0
 IsMerged c = IsMergedFor c (CoalesceStands c)
 
+-- the number is the heartbeat of what was sent
+abbrev pub IsBeatOfSent : Coalesce → ℕ → Type 0
+IsBeatOfSent c n = (olds fresh sent : List Message) → CoalesceStands c olds fresh sent
+    → n ≡ beat sent
+
+-- The old side has ended, the fresh one is above the split or has ended, and nothing is held.
+abbrev pub AreOver : Coalesce → List Message → List Message → Type 0
+AreOver c olds fresh = HasEnded olds × ((c.split < beat fresh) ⊎ HasEnded fresh) × (held_of c ≡ 0)
+
+-- whether it is over, by the lists of both sides
+abbrev pub IsWhetherOver : Coalesce → Bool → Type 0
+IsWhetherOver c answer = (olds fresh sent : List Message) → CoalesceStands c olds fresh sent
+    → IsTrue answer ↔ AreOver c olds fresh
+
 pub record Stays (c d : Coalesce) : Type 0 where
   pub split : d.split ≡ c.split
   pub failed : d.failed ≡ c.failed
   pub old_watch : d.old_watch ≡ c.old_watch
   pub fresh_watch : d.fresh_watch ≡ c.fresh_watch
 
--- from the one state to the other, `waiting` and `left` being the old elements that wait, messages
--- were sent
+-- from the one state to the other messages were sent, `waiting` and `left` being the old elements
+-- that wait
 pub record Moves (c d : Coalesce) (waiting left : List Elem)
     (before now : List Message) : Type 0 where
   pub stays : Stays c d
@@ -174,10 +193,6 @@ pub record IsNext (c d : Coalesce) (e : Elem) : Type 0 where
 abbrev pub LacksTuple : List Value → List Elem → Type 0
 LacksTuple t es = weigh (has_tuple t) es ≡ 0
 
--- no old element can pass
-pub record IsBlocked (c : Coalesce) : Type 0 where
-  pub passed : c.lone ≡ [] → c.olds ≡ []
-
 pub record AdmitsOld (c d : Coalesce) (m : Message) : Type 0 where
   pub split : d.split ≡ c.split
   pub failed : d.failed ≡ c.failed
@@ -205,6 +220,11 @@ pub record AdmitsFresh (c d : Coalesce) (m : Message) (before now : List Message
       → CanFollow (run start_of_list fresh) m
       → StartsFrom c.split m → Flows d d.olds olds (fresh ++ m ∷ []) (sent ++ more)
 
+-- a message of this side was taken in
+abbrev pub Admits : Side → Coalesce → Coalesce → Message → List Message → List Message → Type 0
+Admits side.Old c d m before now = AdmitsOld c d m × (now ≡ before)
+Admits side.Fresh c d m before now = AdmitsFresh c d m before now
+
 -- the next fresh element above the split was taken out, and is due
 pub record IsDue (c d : Coalesce) (at : ℕ) (e : Elem) : Type 0 where
   pub stays : Stays c d
@@ -224,20 +244,21 @@ pub record Releases (c d : Coalesce) (at : ℕ) (before now : List Message) : Ty
   pub within : (olds fresh sent : List Message) → Flows c c.olds olds fresh sent → beat sent ≤ at
       → beat (sent ++ moves.more) ≤ at
 
--- what is told after the elements
+-- what is sent after the elements: the end, or how far they are
 abbrev pub tell : ℕ → ℕ → Bool → List Message
-tell told now true = message.End ∷ []
-tell told now false = cond (nat_lt told now) (message.Beat now ∷ []) []
+tell beat_sent now true = message.End ∷ []
+tell beat_sent now false = cond (nat_lt beat_sent now) (message.Beat now ∷ []) []
 
--- all that can go was sent, and how far that is was told
-pub record Settles (c d : Coalesce) (told : ℕ) (before now : List Message) : Type 0 where
+-- all that can go was sent, and then how far that is
+pub record Settles (c d : Coalesce) (beat_sent : ℕ) (before now : List Message) : Type 0 where
   pub stays : Stays c d
   pub more : List Message
   pub appended : now ≡ before ++ more
-  pub stands : (olds fresh sent : List Message) → Flows c c.olds olds fresh sent → told ≤ beat sent
+  pub stands : (olds fresh sent : List Message) → Flows c c.olds olds fresh sent
+      → beat_sent ≤ beat sent
       → CoalesceStands d olds fresh (sent ++ more)
 
--- a message of one side was taken, and messages were put behind those that were there
+-- a message of one side was taken, and messages were put after those that were there
 pub record TakesOld (c d : Coalesce) (m : Message) (before now : List Message) : Type 0 where
   pub more : List Message
   pub appended : now ≡ before ++ more
@@ -251,6 +272,10 @@ pub record TakesFresh (c d : Coalesce) (m : Message) (before now : List Message)
   pub stands : (olds fresh sent : List Message) → CoalesceStands c olds fresh sent
       → CanFollow (run start_of_list fresh) m
       → StartsFrom c.split m → CoalesceStands d olds (fresh ++ m ∷ []) (sent ++ more)
+
+abbrev pub Takes : Side → Coalesce → Coalesce → Message → List Message → List Message → Type 0
+Takes side.Old c d m before now = TakesOld c d m before now
+Takes side.Fresh c d m before now = TakesFresh c d m before now
 
 -- all is as it was, but the buffer of what was sent
 pub record HandsOver (c d : Coalesce) : Type 0 where

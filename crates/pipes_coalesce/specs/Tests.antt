@@ -1,5 +1,5 @@
 -- Tests of elements, as weights: one where the element is so, and else 0.
-use Rattle.std.specs.Prelude.{ℕ, ◌≡◌, Bool, cond, eqb, nat_le, nat_lt, ◌&&◌, List, ◌++◌}
+use Rattle.std.specs.Prelude.{ℕ, ◌≡◌, Bool, cond, eqb, nat_le, nat_lt, not, ◌&&◌, List, ◌++◌}
 use Rattle.pipes_time.specs.Interval.{horizon}
 use Rattle.pipes_tuple.specs.Equal.{tuple_eq}
 use Rattle.pipes_stream.specs.declared.Elem.{Elem}
@@ -28,6 +28,10 @@ ends_at t e = if_so (eqb e.span.end t)
 
 abbrev pub ends_elsewhere : ℕ → Elem → ℕ
 ends_elsewhere t e = cond (eqb e.span.end t) 0 1
+
+-- it starts at or before the instant, and ends elsewhere than at the split
+abbrev pub goes_by : ℕ → ℕ → Elem → ℕ
+goes_by split b e = if_so (nat_le e.span.start b && not (eqb e.span.end split))
 
 -- it ends at the split and starts below the instant
 abbrev pub waits_below : ℕ → ℕ → Elem → ℕ

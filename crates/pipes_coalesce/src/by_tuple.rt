@@ -1,8 +1,10 @@
 // Elements by their tuple, those of one tuple in the order in which they came.
-ghost use Rattle.std.specs.Prelude.{◌≡◌, ◌≤◌, ◌<◌, ◌-◌, ◌^◌, ◌↔◌, [], ◌∷◌, ◌++◌, map, OnOk, OnErr, IfOk, MatchOption, IsTrue, length, None, Some, ⊤};
+ghost use Rattle.std.specs.Prelude.{◌≡◌, ◌≤◌, ◌<◌, ◌-◌, ◌^◌, ◌↔◌, [], ◌∷◌, ◌++◌, map, OnOk, OnErr};
+ghost use Rattle.std.specs.Prelude.{IfOk, MatchOption, IsTrue, length, None, Some, ⊤};
 ghost use Rattle.pipes_stream.specs.declared.message.Message.TheVariants as message;
 ghost use Rattle.pipes_coalesce.specs.Bags.{SameMembers};
-ghost use Rattle.pipes_coalesce.specs.Filed.{contents, AreFiled, EntryAt, Added, Finds, QueueOut, SendsAll};
+ghost use Rattle.pipes_coalesce.specs.Filed.{contents, AreFiled, EntryAt, Added, Finds, QueueOut};
+ghost use Rattle.pipes_coalesce.specs.Filed.{SendsAll};
 
 use crate::queue::Queue;
 use indexmap::IndexMap;
@@ -128,7 +130,7 @@ fn take_from(table: &mut IndexMap<Tuple, Queue>, tuple: &Tuple) -> Option<Elem>
     }
 }
 
-// Puts a queue's elements behind what was sent, in order.
+// Puts a queue's elements after what was sent, in order.
 fn send_queue(mut queue: Queue, out: &mut Vec<Message>) -> Result<(), Memory>
     ensures { OnOk result (out.new.items ≡ out.old.items ++ map message.Elem queue) }
 {

@@ -1,5 +1,6 @@
 // Two streams merged at a split.
-ghost use Rattle.std.specs.Prelude.{◌≡◌, ◌≤◌, ◌<◌, ◌+◌, ◌-◌, ◌^◌, ◌++◌, ◌∷◌, [], ◌↔◌, ◌&&◌, OnOk, OnErr, IsErr, IsTrue, MatchOption, min, true, false};
+ghost use Rattle.std.specs.Prelude.{◌≡◌, ◌≤◌, ◌<◌, ◌+◌, ◌-◌, ◌^◌, ◌++◌, ◌∷◌, [], ◌↔◌, ◌&&◌, OnOk};
+ghost use Rattle.std.specs.Prelude.{OnErr, IsErr, IsTrue, MatchOption, min, true, false};
 ghost use Rattle.std.specs.Bool.{OnTrue};
 ghost use Rattle.pipes_stream.specs.declared.message.Message.{Message as Sent};
 ghost use Rattle.pipes_coalesce.specs.Joined.{IsJoint};
@@ -35,6 +36,13 @@ fn joined(first: Elem, second: &Elem) -> Elem
     }
 }
 
+// A side of the merge.
+#[derive(Clone, Copy, Drop)]
+enum Side {
+    Old,
+    Fresh,
+}
+
 /// Two streams merged at a split: an old one, whose elements end at or below it, and a fresh one,
 /// whose elements start at or above it. An old element that ends there and a fresh one of the same
 /// tuple that starts there become one: of several old ones the one that started first, then the
@@ -48,7 +56,7 @@ pub struct Coalesce {
     pub split: u64,
     old_watch: Watch,
     fresh_watch: Watch,
-    // Old elements behind those that wait for a partner, in order.
+    // Old elements that wait for those without a partner, in order.
     olds: Queue,
     // Old elements that wait for a partner, and their start, which is one.
     lone: ByTuple,
@@ -63,7 +71,12 @@ pub struct Coalesce {
 }
 
 impl Coalesce {
-    ghost use Rattle.pipes_coalesce.specs.Stands.{CoalesceStands, now_of, held_of, IsOver, Stays, Moves, CanPass, IsNext, IsBlocked, AdmitsOld, AdmitsFresh, Settles, TakesOld, TakesFresh, LacksTuple, AdmitsElem, IsDue, Releases, tell, HandsOver, IsMerged};
+    ghost use Rattle.pipes_coalesce.specs.Stands.{CoalesceStands, now_of, held_of, Stays};
+    ghost use Rattle.pipes_coalesce.specs.Stands.{IsBeatOfSent, IsWhetherOver};
+    ghost use Rattle.pipes_coalesce.specs.Stands.{Moves, CanPass, IsNext, IsBlocked, AdmitsOld};
+    ghost use Rattle.pipes_coalesce.specs.Stands.{AdmitsFresh, Settles, TakesOld, TakesFresh};
+    ghost use Rattle.pipes_coalesce.specs.Stands.{LacksTuple, AdmitsElem, IsDue, Releases, tell};
+    ghost use Rattle.pipes_coalesce.specs.Stands.{HandsOver, IsMerged, Admits, Takes};
 
     /// The merge at this split, which has taken nothing. No memory is taken.
     pub fn two(alloc: Global, split: u64) -> Coalesce
@@ -88,7 +101,8 @@ impl Coalesce {
     /// The heartbeat of what was sent: the least of the old stream's, of the starts of the old
     /// elements that wait for a partner, and of the greater of the split and the fresh stream's.
     pub fn beat_now(&self) -> u64
-        ensures { result ≡ now_of self.now }
+        ensures value { result ≡ now_of self.now }
+        ensures sent { IsBeatOfSent self.now result }
     {
         let lone = if self.lone.is_empty() {
             CLOSED
@@ -113,13 +127,13 @@ impl Coalesce {
     /// Whether the old stream has ended, the fresh one is above the split or has ended, and nothing
     /// is held.
     pub fn is_over(&self) -> bool
-        ensures { IsTrue result ↔ IsOver self.now }
+        ensures { IsWhetherOver self.now result }
     {
         let passed = self.split < self.fresh_watch.beat_now() || self.fresh_watch.is_ended();
         self.old_watch.is_ended() && passed && self.held() == 0
     }
 
-    // Takes out the next old element, unless it waits behind those without a partner.
+    // Takes out the next old element, unless it waits for those without a partner.
     fn next(&mut self) -> Option<Elem>
         ensures { MatchOption result (IsBlocked self.new × (self.new ≡ self.old))
             (λ elem. IsNext self.old self.new elem) }
@@ -171,7 +185,7 @@ impl Coalesce {
         }
     }
 
-    // Passes on the old elements, up to one that waits behind those without a partner.
+    // Passes on the old elements, up to one that waits after those without a partner.
     fn advance(&mut self, out: &mut Vec<Message>) -> Result<(), Memory>
         ensures moves { OnOk result
             (Moves self.old self.new self.old.olds self.new.olds out.old.items out.new.items) }
@@ -269,15 +283,15 @@ impl Coalesce {
         Ok(())
     }
 
-    // Tells how far it is, `told` having been told before.
-    fn tell(&self, told: u64, now: u64, out: &mut Vec<Message>) -> Result<(), Memory>
+    // Tells how far it is, where that is further than the heartbeat that was sent.
+    fn tell(&self, beat_sent: u64, now: u64, out: &mut Vec<Message>) -> Result<(), Memory>
         ensures { OnOk result
-            (out.new.items ≡ out.old.items ++ tell told now
+            (out.new.items ≡ out.old.items ++ tell beat_sent now
             (self.now.old_watch.ended && self.now.fresh_watch.ended)) }
     {
         if self.old_watch.is_ended() && self.fresh_watch.is_ended() {
             append(out, Message::End)
-        } else if told < now {
+        } else if beat_sent < now {
             append(out, Message::Beat(now))
         } else {
             Ok(())
@@ -285,38 +299,37 @@ impl Coalesce {
     }
 
     // Sends what can go, and tells how far that is.
-    fn settle(&mut self, told: u64, out: &mut Vec<Message>) -> Result<(), Memory>
-        ensures { OnOk result (Settles self.old self.new told out.old.items out.new.items) }
+    fn settle(&mut self, beat_sent: u64, out: &mut Vec<Message>) -> Result<(), Memory>
+        ensures { OnOk result (Settles self.old self.new beat_sent out.old.items out.new.items) }
     {
         self.let_go(out)?;
         self.advance(out)?;
         let now = self.beat_now();
         self.release_partners(now, out)?;
         self.release_later(now, out)?;
-        self.tell(told, now, out)
+        self.tell(beat_sent, now, out)
     }
 
-    fn step_old(&mut self, message: Message, out: &mut Vec<Message>) -> Result<(), Memory>
+    // Takes in a message of this side.
+    fn admit(&mut self, side: Side, message: Message, out: &mut Vec<Message>) -> Result<(), Memory>
+        ensures { OnOk result
+            (Admits side self.old self.new message out.old.items out.new.items) }
+    {
+        match side {
+            Side::Old => self.admit_old(message),
+            Side::Fresh => self.admit_fresh(message, out),
+        }
+    }
+
+    fn step(&mut self, side: Side, message: Message, out: &mut Vec<Message>) -> Result<(), Memory>
         ensures takes { OnOk result
-            (TakesOld self.old self.new message out.old.items out.new.items) }
+            (Takes side self.old self.new message out.old.items out.new.items) }
         ensures failed { OnOk result (self.new.failed ≡ self.old.failed) }
         ensures split { OnOk result (self.new.split ≡ self.old.split) }
     {
-        let told = self.beat_now();
-        self.admit_old(message)?;
-        self.settle(told, out)?;
-        Ok(())
-    }
-
-    fn step_fresh(&mut self, message: Message, out: &mut Vec<Message>) -> Result<(), Memory>
-        ensures takes { OnOk result
-            (TakesFresh self.old self.new message out.old.items out.new.items) }
-        ensures failed { OnOk result (self.new.failed ≡ self.old.failed) }
-        ensures split { OnOk result (self.new.split ≡ self.old.split) }
-    {
-        let told = self.beat_now();
-        self.admit_fresh(message, out)?;
-        self.settle(told, out)?;
+        let beat_sent = self.beat_now();
+        self.admit(side, message, out)?;
+        self.settle(beat_sent, out)?;
         Ok(())
     }
 
@@ -342,37 +355,28 @@ impl Coalesce {
         sent
     }
 
-    fn try_old(&mut self, message: Message, out: &mut Vec<Message>) -> Result<(), Memory>
+    fn try_take(
+        &mut self,
+        side: Side,
+        message: Message,
+        out: &mut Vec<Message>,
+    ) -> Result<(), Memory>
         ensures takes { OnOk result
-            (TakesOld self.old self.new message out.old.items out.new.items) }
+            (Takes side self.old self.new message out.old.items out.new.items) }
         ensures failed { OnOk result (self.new.failed ≡ self.old.failed) }
         ensures split { OnOk result (self.new.split ≡ self.old.split) }
         ensures memory { OnErr result (out.new.items ≡ out.old.items) }
     {
         let mut sent = self.buffer();
-        self.step_old(message, &mut sent)?;
+        self.step(side, message, &mut sent)?;
         self.hand_over(sent, out)?;
         Ok(())
     }
 
-    fn try_fresh(&mut self, message: Message, out: &mut Vec<Message>) -> Result<(), Memory>
+    // Takes a message of this side.
+    fn take(&mut self, side: Side, message: Message, out: &mut Vec<Message>) -> Result<(), Memory>
         ensures takes { OnOk result
-            (TakesFresh self.old self.new message out.old.items out.new.items) }
-        ensures failed { OnOk result (self.new.failed ≡ self.old.failed) }
-        ensures split { OnOk result (self.new.split ≡ self.old.split) }
-        ensures memory { OnErr result (out.new.items ≡ out.old.items) }
-    {
-        let mut sent = self.buffer();
-        self.step_fresh(message, &mut sent)?;
-        self.hand_over(sent, out)?;
-        Ok(())
-    }
-
-    /// Takes a message of the old stream, and appends the messages that it sends for it. Without
-    /// memory nothing is appended, and no later message is taken.
-    pub fn old(&mut self, message: Message, out: &mut Vec<Message>) -> Result<(), Memory>
-        ensures takes { OnOk result
-            (TakesOld self.old self.new message out.old.items out.new.items) }
+            (Takes side self.old self.new message out.old.items out.new.items) }
         ensures split { self.new.split ≡ self.old.split }
         ensures memory { OnErr result (out.new.items ≡ out.old.items) }
         ensures fails { OnErr result (self.new.failed ≡ true) }
@@ -383,7 +387,7 @@ impl Coalesce {
             return Err(Memory);
         }
         let split = self.split;
-        match self.try_old(message, out) {
+        match self.try_take(side, message, out) {
             Ok(()) => Ok(()),
             Err(refused) => {
                 self.split = split;
@@ -391,6 +395,20 @@ impl Coalesce {
                 Err(refused)
             }
         }
+    }
+
+    /// Takes a message of the old stream, and appends the messages that it sends for it. Out of
+    /// memory, nothing is appended, and no later message is taken.
+    pub fn old(&mut self, message: Message, out: &mut Vec<Message>) -> Result<(), Memory>
+        ensures takes { OnOk result
+            (TakesOld self.old self.new message out.old.items out.new.items) }
+        ensures split { self.new.split ≡ self.old.split }
+        ensures memory { OnErr result (out.new.items ≡ out.old.items) }
+        ensures fails { OnErr result (self.new.failed ≡ true) }
+        ensures stays_failed { OnTrue self.old.failed (IsErr result) }
+        ensures goes_on { OnOk result (self.new.failed ≡ false) }
+    {
+        self.take(Side::Old, message, out)
     }
 
     /// Takes a message of the fresh stream, in the same way.
@@ -403,17 +421,6 @@ impl Coalesce {
         ensures stays_failed { OnTrue self.old.failed (IsErr result) }
         ensures goes_on { OnOk result (self.new.failed ≡ false) }
     {
-        if self.failed {
-            return Err(Memory);
-        }
-        let split = self.split;
-        match self.try_fresh(message, out) {
-            Ok(()) => Ok(()),
-            Err(refused) => {
-                self.split = split;
-                self.failed = true;
-                Err(refused)
-            }
-        }
+        self.take(Side::Fresh, message, out)
     }
 }

@@ -6,7 +6,8 @@ use Rattle.pipes_edge.specs.declared.mem_files.MemFiles.{MemFiles}
 use Rattle.pipes_edge.specs.ByName.{Counts, no_counts, files_in, counts_in, count_at}
 use Rattle.pipes_edge.specs.Outside.{Names, no_files}
 
--- the names and their bytes, under each name the reads of a source that fail, counted from 1, and the counts of faults
+-- the names and their bytes, under each name the reads of a source that fail, counted from 1, and
+-- the counts of faults
 pub record Shelf : Type 0 where
   pub files : Names
   pub failing : List ℕ → List ℕ
@@ -18,11 +19,16 @@ empty_shelf = record { files = no_files; failing = λ name. []; counts = no_coun
 
 -- the calls listed under a name
 abbrev pub calls_in : List FailingRead → List ℕ → List ℕ
-calls_in reads name = map (λ read. read.call) (filter (λ read. bytes_eq (string_bytes read.name) name) reads)
+calls_in reads name = map (λ read. read.call)
+    (filter (λ read. bytes_eq (string_bytes read.name) name) reads)
 
 -- what a MemFiles shows
 abbrev pub shelf_of : MemFiles → Shelf
-shelf_of memory = record { files = files_in memory.files; failing = calls_in memory.failing.items; counts = counts_in memory.counts }
+shelf_of memory = record {
+  files = files_in memory.files;
+  failing = calls_in memory.failing.items;
+  counts = counts_in memory.counts;
+}
 
 -- the count of faults under a name
 abbrev pub faults_of : MemFiles → List ℕ → ℕ

@@ -1,7 +1,8 @@
 -- Sources and sinks in memory, as their callers see them.
 use Rattle.std.specs.Prelude.{ℕ, List}
 
--- A source over a file in memory. Its reads are counted from 1, and those whose number is listed fail.
+-- A source over a file in memory. Its reads are counted from 1, and those whose number is listed
+-- fail.
 pub record Reading : Type 0 where
   pub name : List ℕ
   pub left : List ℕ
@@ -14,7 +15,8 @@ pub record SureReading : Type 0 where
   pub name : List ℕ
   pub left : List ℕ
 
--- A sink in memory, which takes at most some bytes in one write. Its writes are counted from 1, and those whose number
+-- A sink in memory, which takes at most some bytes in one write. Its writes are counted from 1, and
+-- those whose number
 -- is listed fail.
 pub record Collecting : Type 0 where
   pub bytes : List ℕ

@@ -12,9 +12,12 @@ Names = List ℕ → Option (List ℕ)
 abbrev pub no_files : Names
 no_files name = None
 
--- Where the files are told: a found source has its file's bytes left, and a name is missing exactly where no file
+-- Where the files are known: a found source has its file's bytes left, and a name is missing
+-- exactly
+-- where no file
 -- has it.
-abbrev pub Finds : {S : Type 0} → (S → Option (List ℕ)) → Option Names → List ℕ → Result S FindFault → Type 0
+abbrev pub Finds : {S : Type 0} → (S → Option (List ℕ)) → Option Names → List ℕ → Result S FindFault
+    → Type 0
 Finds left None name r = ⊤
 Finds left (Some files) name (Ok src) = IsSome (files name) × (left src ≡ files name)
 Finds left (Some files) name (Err Missing) = files name ≡ None
@@ -38,7 +41,8 @@ abbrev pub NoneFalls : (List ℕ → ℕ) → (List ℕ → ℕ) → Type 0
 NoneFalls before now = (n : List ℕ) → before n ≤ now n
 
 -- a source was found under this name, which is kept, and has had no fault since
-pub record IsFoundAs {S : Type 0} (source_name : S → List ℕ) (found_at faults : S → ℕ) (keeps : List ℕ → Type 0) (name : List ℕ) (src : S) : Type 0 where
+pub record IsFoundAs {S : Type 0} (source_name : S → List ℕ) (found_at faults : S → ℕ)
+    (keeps : List ℕ → Type 0) (name : List ℕ) (src : S) : Type 0 where
   pub named : source_name src ≡ name
   pub fresh : faults src ≡ found_at src
   pub kept : keeps name

@@ -4,5 +4,5 @@ use Rattle.pipes_edge.specs.ByName.{files_in}
 use Rattle.pipes_edge.specs.Outside.{Names}
 
 -- the names and their bytes
-abbrev pub names_of : SureFiles → Names
-names_of sure = files_in sure.files
+abbrev pub sure_names : SureFiles → Names
+sure_names sure = files_in sure.files

@@ -1,7 +1,8 @@
 // Maps by the names of files: to their bytes, and to counts of faults.
 ghost use Rattle.std.specs.Prelude.{◌≡◌, ℕ, List, Some, OnOk, OnErr, IsSome, IsErrOf};
 ghost use Rattle.pipes_edge.specs.Causes.{Rose};
-ghost use Rattle.pipes_edge.specs.ByName.{files_in, counts_in, set_at, count_at, kept_at, raised_at};
+ghost use Rattle.pipes_edge.specs.ByName.{files_in, counts_in, set_at, count_at, kept_at};
+ghost use Rattle.pipes_edge.specs.ByName.{raised_at};
 ghost use Rattle.pipes_edge.specs.Outside.{Finds, NoneFalls};
 
 use crate::FindFault;
@@ -21,7 +22,8 @@ pub(crate) fn put(
     name: &str,
     bytes: &[u8],
 ) -> Result<(), Memory>
-    ensures ok { OnOk result (files_in files.new ≡ set_at (files_in files.old) name.now (Some bytes.now)) }
+    ensures ok { OnOk result (files_in files.new ≡ set_at (files_in files.old) name.now
+        (Some bytes.now)) }
     ensures err { OnErr result (files_in files.new ≡ files_in files.old) }
 {
     let own = String::from_str(alloc, name)?;
@@ -44,8 +46,10 @@ pub(crate) fn keep(alloc: Global, counts: &mut CountMap, name: &str) -> Result<(
     ensures ok { OnOk result (counts_in counts.new ≡ kept_at (counts_in counts.old) name.now) }
     ensures err { OnErr result (counts_in counts.new ≡ counts_in counts.old) }
     ensures kept { OnOk result (IsSome (counts_in counts.new name.now)) }
-    ensures each { (n : List ℕ) → IsSome (counts_in counts.old n) → IsSome (counts_in counts.new n) }
-    ensures same { (n : List ℕ) → count_at (counts_in counts.new) n ≡ count_at (counts_in counts.old) n }
+    ensures each { (n : List ℕ) → IsSome (counts_in counts.old n)
+        → IsSome (counts_in counts.new n) }
+    ensures same { (n : List ℕ) → count_at (counts_in counts.new) n ≡ count_at
+        (counts_in counts.old) n }
 {
     if !counts.contains_key(name) {
         let own = String::from_str(alloc, name)?;
@@ -57,9 +61,11 @@ pub(crate) fn keep(alloc: Global, counts: &mut CountMap, name: &str) -> Result<(
 // Raises the count under the name, where one is kept.
 pub(crate) fn raise(counts: &mut CountMap, name: &str)
     ensures raised { counts_in counts.new ≡ raised_at (counts_in counts.old) name.now }
-    ensures each { (n : List ℕ) → IsSome (counts_in counts.old n) → IsSome (counts_in counts.new n) }
+    ensures each { (n : List ℕ) → IsSome (counts_in counts.old n)
+        → IsSome (counts_in counts.new n) }
     ensures later { NoneFalls (count_at (counts_in counts.old)) (count_at (counts_in counts.new)) }
-    ensures rose { IsSome (counts_in counts.old name.now) → Rose (count_at (counts_in counts.old) name.now) (count_at (counts_in counts.new) name.now) }
+    ensures rose { IsSome (counts_in counts.old name.now) → Rose
+        (count_at (counts_in counts.old) name.now) (count_at (counts_in counts.new) name.now) }
 {
     if let Some(count) = counts.get_mut(name) {
         *count = count.saturating_add(1);

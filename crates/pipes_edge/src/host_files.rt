@@ -13,7 +13,8 @@ use std::{fs, rt};
 
 /// Files of the system, by their paths.
 ///
-/// What the system does behind it isn't proved: that a search finds the file with that path, and finds none only where
+/// What the system does after it isn't proved: that a search finds the file with that path, and
+/// finds none only where
 /// there is none.
 #[derive(Drop)]
 pub struct HostFiles<R: rt::Files<File = File> + AllocGlobal + Drop> {
@@ -22,7 +23,8 @@ pub struct HostFiles<R: rt::Files<File = File> + AllocGlobal + Drop> {
     failed_searches: u64,
 }
 
-/// A file of the system that was found. That its reads give the file's bytes, in order, isn't proved.
+/// A file of the system that was found. That its reads give the file's bytes, in order, isn't
+/// proved.
 #[derive(Drop)]
 pub struct HostSource {
     file: File,
@@ -69,7 +71,8 @@ impl Source for HostSource {
         ensures bound { ReadsAtMost result buf.new }
         ensures cause { HasCause self.old.faults self.new.faults result }
         ensures ok { OnOk result (self.new ≡ self.old) }
-        ensures err { OnErr result (self.new ≡ record self.old { faults = raised self.old.faults }) }
+        ensures err { OnErr result (self.new ≡ record self.old
+            { faults = raised self.old.faults }) }
     {
         match self.file.read(buf) {
             Ok(count) => Ok(count),
@@ -102,7 +105,7 @@ impl<R: rt::Files<File = File> + AllocGlobal + Drop> Files for HostFiles<R> {
 
     type Src = HostSource;
 
-    ghost told = { λ f. None };
+    ghost known = { λ f. None };
 
     ghost faults = { λ f. count_at (tally_of f).counts };
 
@@ -110,19 +113,31 @@ impl<R: rt::Files<File = File> + AllocGlobal + Drop> Files for HostFiles<R> {
 
     ghost keeps = { λ f n. IsSome ((tally_of f).counts n) };
 
-    /// A path that the system doesn't find is missing, one for which it has no memory is want of memory, and every other
+    /// A path that the system doesn't find is missing, one for which it has no memory is want of
+    /// memory, and every other
     /// error is a failed search.
     fn find_src(&mut self, name: &str) -> Result<HostSource, FindFault>
-        ensures found { IfOk result (IsFoundAs (λ src. src.name) (λ src. 0) (λ src. src.faults) (λ n. IsSome ((tally_of self.new).counts n)) name.now) }
-        ensures keeps { (n : List ℕ) → IsSome ((tally_of self.old).counts n) → IsSome ((tally_of self.new).counts n) }
-        ensures later { NoneFalls (count_at (tally_of self.old).counts) (count_at (tally_of self.new).counts) }
-        ensures cause { FailsByName result (count_at (tally_of self.old).counts name.now) (count_at (tally_of self.new).counts name.now) }
-        ensures searches { CountsSearch result (tally_of self.old).failed_searches (tally_of self.new).failed_searches }
+        ensures found { IfOk result (IsFoundAs (λ src. src.name) (λ src. 0) (λ src. src.faults)
+            (λ n. IsSome ((tally_of self.new).counts n)) name.now) }
+        ensures keeps { (n : List ℕ) → IsSome ((tally_of self.old).counts n)
+            → IsSome ((tally_of self.new).counts n) }
+        ensures later { NoneFalls (count_at (tally_of self.old).counts)
+            (count_at (tally_of self.new).counts) }
+        ensures cause { FailsByName result (count_at (tally_of self.old).counts name.now)
+            (count_at (tally_of self.new).counts name.now) }
+        ensures searches { CountsSearch result (tally_of self.old).failed_searches
+            (tally_of self.new).failed_searches }
 
-        ensures ok { OnOk result (tally_of self.new ≡ record (tally_of self.old) { counts = kept_at (tally_of self.old).counts name.now }) }
-        ensures missing { IsErrOf result FindFault.Missing → tally_of self.new ≡ record (tally_of self.old) { counts = kept_at (tally_of self.old).counts name.now } }
-        ensures failed { IsErrOf result FindFault.Failed → tally_of self.new ≡ record { counts = raised_at (kept_at (tally_of self.old).counts name.now) name.now; failed_searches = raised (tally_of self.old).failed_searches } }
-        ensures memory { IsErrOf result FindFault.Memory → (n : List ℕ) → count_at (tally_of self.new).counts n ≡ count_at (tally_of self.old).counts n }
+        ensures ok { OnOk result (tally_of self.new ≡ record (tally_of self.old)
+            { counts = kept_at (tally_of self.old).counts name.now }) }
+        ensures missing { IsErrOf result FindFault.Missing → tally_of self.new ≡ record
+            (tally_of self.old) { counts = kept_at (tally_of self.old).counts name.now } }
+        ensures failed { IsErrOf result FindFault.Failed → tally_of self.new ≡ record {
+          counts = raised_at (kept_at (tally_of self.old).counts name.now) name.now;
+          failed_searches = raised (tally_of self.old).failed_searches;
+        } }
+        ensures memory { IsErrOf result FindFault.Memory → (n : List ℕ)
+            → count_at (tally_of self.new).counts n ≡ count_at (tally_of self.old).counts n }
     {
         let own = String::from_str(self.rt.alloc(), name)?;
         keep(self.rt.alloc(), &mut self.counts, name)?;
@@ -145,11 +160,15 @@ impl<R: rt::Files<File = File> + AllocGlobal + Drop> Files for HostFiles<R> {
 
     fn retire(&mut self, src: HostSource)
         requires { IsSome ((tally_of self.old).counts src.name) }
-        ensures keeps { (n : List ℕ) → IsSome ((tally_of self.old).counts n) → IsSome ((tally_of self.new).counts n) }
-        ensures later { NoneFalls (count_at (tally_of self.old).counts) (count_at (tally_of self.new).counts) }
-        ensures rose { Rose 0 src.faults → Rose (count_at (tally_of self.old).counts src.name) (count_at (tally_of self.new).counts src.name) }
+        ensures keeps { (n : List ℕ) → IsSome ((tally_of self.old).counts n)
+            → IsSome ((tally_of self.new).counts n) }
+        ensures later { NoneFalls (count_at (tally_of self.old).counts)
+            (count_at (tally_of self.new).counts) }
+        ensures rose { Rose 0 src.faults → Rose (count_at (tally_of self.old).counts src.name)
+            (count_at (tally_of self.new).counts src.name) }
 
-        ensures faulty { 0 < src.faults → tally_of self.new ≡ record (tally_of self.old) { counts = raised_at (tally_of self.old).counts src.name } }
+        ensures faulty { 0 < src.faults → tally_of self.new ≡ record (tally_of self.old)
+            { counts = raised_at (tally_of self.old).counts src.name } }
         ensures faultless { src.faults ≡ 0 → tally_of self.new ≡ tally_of self.old }
     {
         if src.faults > 0 {

@@ -12,7 +12,8 @@ enum Stream {
     Error(Stderr),
 }
 
-/// Standard output or standard error, seen as its count of faults. That what it takes comes out there isn't proved.
+/// Standard output or standard error, seen as its count of faults. That what it takes comes out
+/// there isn't proved.
 #[derive(Drop)]
 pub struct HostSink {
     stream: Stream,
@@ -54,7 +55,8 @@ impl Sink for HostSink {
 
     ghost faults = { λ s. s };
 
-    /// A write that takes nothing of a piece that isn't empty is a fault, and so is one that was interrupted.
+    /// A write that takes nothing of a piece that isn't empty is a fault, and so is one that was
+    /// interrupted.
     fn write(&mut self, bytes: &[u8]) -> Result<usize, Failed>
         ensures bound { TakesSome result bytes.now }
         ensures cause { HasCause self.old self.new result }

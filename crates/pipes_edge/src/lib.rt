@@ -1,11 +1,13 @@
-//! The outside of a run: named files, sources, sinks and a gate, and the faults that each has counted.
+//! The outside of a run: named files, sources, sinks and a gate, and the faults that each has
+//! counted.
 #![tactic(auto)]
 
 ghost use Rattle.std.specs.Prelude.{◌≡◌, List, ℕ, Option, IfOk};
 ghost use Rattle.std.specs.Io.{ReadsAtMost};
 ghost use Rattle.std.specs.Io.KnownBytes.{ReadConsumes, WriteAppends};
 ghost use Rattle.pipes_edge.specs.Causes.{Rose, HasCause, TakesSome};
-ghost use Rattle.pipes_edge.specs.Outside.{Names, Finds, CountsSearch, FailsByName, NoneFalls, IsFoundAs};
+ghost use Rattle.pipes_edge.specs.Outside.{Names, Finds, CountsSearch, FailsByName, NoneFalls};
+ghost use Rattle.pipes_edge.specs.Outside.{IsFoundAs};
 
 mod by_name;
 mod host_files;
@@ -36,7 +38,7 @@ pub enum FindFault {
     Missing,
     /// The search itself failed.
     Failed,
-    /// Want of memory.
+    /// Out of memory.
     Memory,
 }
 
@@ -76,7 +78,8 @@ pub trait Source {
     /// The count of faults that it had then.
     ghost found_at: { Self → ℕ };
 
-    /// Moves the next bytes into the front of the buffer and answers how many. 0 for a buffer that isn't empty is
+    /// Moves the next bytes into the start of the buffer and answers how many. 0 for a buffer that
+    /// isn't empty is
     /// the end of the input; a read that failed moved nothing.
     fn read(&mut self, buf: &mut [u8]) -> Result<usize, Failed>
         ensures bound { ReadsAtMost result buf.new }
@@ -94,7 +97,9 @@ pub trait Sink {
     /// How often a write has failed, up to the greatest `u64`.
     ghost faults: { Self → ℕ };
 
-    /// Takes the front of the piece and answers how many bytes that was; a write that failed took none.
+    /// Takes the first bytes of the piece and answers how many bytes that was; a write that failed
+    /// took
+    /// none.
     fn write(&mut self, bytes: &[u8]) -> Result<usize, Failed>
         ensures bound { TakesSome result bytes.now }
         ensures bytes { WriteAppends (written self.old) (written self.new) result bytes.now }
@@ -106,8 +111,8 @@ pub trait Files {
     /// What a search finds.
     type Src: Source + Send + Drop;
 
-    /// The names and their bytes, where they are told.
-    ghost told: { Self → Option Names };
+    /// The names and their bytes, where they are known.
+    ghost known: { Self → Option Names };
 
     /// How often, under each name, a search has failed or a source has come back with faults.
     ghost faults: { Self → List ℕ → ℕ };
@@ -120,21 +125,24 @@ pub trait Files {
 
     /// A source over the file with this name, from its first byte on.
     fn find_src(&mut self, name: &str) -> Result<Self::Src, FindFault>
-        ensures told { told self.new ≡ told self.old }
-        ensures answer { Finds Self.Src.left (told self.old) name.now result }
-        ensures found { IfOk result (IsFoundAs Self.Src.name Self.Src.found_at Self.Src.faults (keeps self.new) name.now) }
+        ensures known { known self.new ≡ known self.old }
+        ensures answer { Finds Self.Src.left (known self.old) name.now result }
+        ensures found { IfOk result (IsFoundAs Self.Src.name Self.Src.found_at Self.Src.faults
+            (keeps self.new) name.now) }
         ensures keeps { (n : List ℕ) → keeps self.old n → keeps self.new n }
         ensures later { NoneFalls (faults self.old) (faults self.new) }
         ensures cause { FailsByName result (faults self.old name.now) (faults self.new name.now) }
-        ensures searches { CountsSearch result (failed_searches self.old) (failed_searches self.new) };
+        ensures searches { CountsSearch result (failed_searches self.old)
+            (failed_searches self.new) };
 
     /// Takes a source back, and counts under its name whether it has had faults since it was found.
     fn retire(&mut self, src: Self::Src)
         requires { keeps self.old (Self.Src.name src) }
-        ensures told { told self.new ≡ told self.old }
+        ensures known { known self.new ≡ known self.old }
         ensures keeps { (n : List ℕ) → keeps self.old n → keeps self.new n }
         ensures later { NoneFalls (faults self.old) (faults self.new) }
-        ensures rose { Rose (Self.Src.found_at src) (Self.Src.faults src) → Rose (faults self.old (Self.Src.name src)) (faults self.new (Self.Src.name src)) }
+        ensures rose { Rose (Self.Src.found_at src) (Self.Src.faults src)
+            → Rose (faults self.old (Self.Src.name src)) (faults self.new (Self.Src.name src)) }
         ensures searches { failed_searches self.new ≡ failed_searches self.old };
 }
 

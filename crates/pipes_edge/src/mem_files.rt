@@ -1,5 +1,6 @@
 // Files in memory.
-ghost use Rattle.std.specs.Prelude.{◌≡◌, ◌++◌, [], ◌∷◌, ℕ, List, Some, IsSome, IfOk, OnOk, OnErr, IsErrOf, ◌<◌};
+ghost use Rattle.std.specs.Prelude.{◌≡◌, ◌++◌, [], ◌∷◌, ℕ, List, Some, IsSome, IfOk, OnOk, OnErr};
+ghost use Rattle.std.specs.Prelude.{IsErrOf, ◌<◌};
 ghost use Rattle.pipes_edge.specs.Causes.{Rose};
 ghost use Rattle.pipes_edge.specs.ByName.{set_at, count_at, kept_at, raised_at};
 ghost use Rattle.pipes_edge.specs.MemFiles.{shelf_of, empty_shelf, faults_of, IsKept, calls_in};
@@ -40,20 +41,27 @@ impl MemFiles {
         }
     }
 
-    /// Puts a file with these bytes under the name, in the place of one that was there. Sources that were found before
+    /// Puts a file with these bytes under the name, in the place of one that was there. Sources
+    /// that were found before
     /// keep the old bytes.
     pub fn add(&mut self, name: &str, bytes: &[u8]) -> Result<(), Memory>
-        ensures ok { OnOk result (shelf_of self.new ≡ record (shelf_of self.old) { files = set_at (shelf_of self.old).files name.now (Some bytes.now) }) }
+        ensures ok { OnOk result (shelf_of self.new ≡ record (shelf_of self.old)
+            { files = set_at (shelf_of self.old).files name.now (Some bytes.now) }) }
         ensures err { OnErr result (shelf_of self.new ≡ shelf_of self.old) }
         ensures keeps { (n : List ℕ) → IsKept self.old n → IsKept self.new n }
     {
         put(self.alloc, &mut self.files, name, bytes)
     }
 
-    /// Lets the read with this number fail too, in each source that is found under the name from now on, whether or not
-    /// a file has the name yet. Each source counts its own reads, from 1 on; 0 is the number of none.
+    /// Lets the read with this number fail too, in each source that is found under the name from
+    /// now on, whether or not
+    /// a file has the name yet. Each source counts its own reads, from 1 on; 0 is the number of
+    /// none.
     pub fn fail_at(&mut self, name: &str, call: u64) -> Result<(), Memory>
-        ensures ok { OnOk result (shelf_of self.new ≡ record (shelf_of self.old) { failing = set_at (shelf_of self.old).failing name.now ((shelf_of self.old).failing name.now ++ call ∷ []) }) }
+        ensures ok { OnOk result (shelf_of self.new ≡ record (shelf_of self.old) {
+          failing = set_at (shelf_of self.old).failing name.now
+              ((shelf_of self.old).failing name.now ++ call ∷ []);
+        }) }
         ensures err { OnErr result (shelf_of self.new ≡ shelf_of self.old) }
         ensures keeps { (n : List ℕ) → IsKept self.old n → IsKept self.new n }
     {
@@ -77,7 +85,7 @@ fn calls(alloc: Global, reads: &[FailingRead], name: &str) -> Result<Vec<u64>, A
 impl Files for MemFiles {
     type Src = MemSource;
 
-    ghost told = { λ f. Some (shelf_of f).files };
+    ghost known = { λ f. Some (shelf_of f).files };
 
     ghost faults = { faults_of };
 
@@ -87,15 +95,19 @@ impl Files for MemFiles {
 
     /// A source over a copy of the file.
     fn find_src(&mut self, name: &str) -> Result<MemSource, FindFault>
-        ensures told { (shelf_of self.new).files ≡ (shelf_of self.old).files }
-        ensures answer { Finds (λ src. Some src.left) (Some (shelf_of self.old).files) name.now result }
-        ensures found { IfOk result (IsFoundAs (λ src. src.name) (λ src. 0) (λ src. src.faults) (IsKept self.new) name.now) }
+        ensures known { (shelf_of self.new).files ≡ (shelf_of self.old).files }
+        ensures answer { Finds (λ src. Some src.left) (Some (shelf_of self.old).files) name.now
+            result }
+        ensures found { IfOk result (IsFoundAs (λ src. src.name) (λ src. 0) (λ src. src.faults)
+            (IsKept self.new) name.now) }
         ensures keeps { (n : List ℕ) → IsKept self.old n → IsKept self.new n }
         ensures later { NoneFalls (faults_of self.old) (faults_of self.new) }
         ensures never_fails { IsErrOf result FindFault.Failed → ⊥ }
 
-        ensures fresh { IfOk result (λ src. (src.calls ≡ 0) × (src.failing ≡ (shelf_of self.old).failing name.now)) }
-        ensures ok { OnOk result (shelf_of self.new ≡ record (shelf_of self.old) { counts = kept_at (shelf_of self.old).counts name.now }) }
+        ensures fresh { IfOk result (λ src. (src.calls ≡ 0) ×
+            (src.failing ≡ (shelf_of self.old).failing name.now)) }
+        ensures ok { OnOk result (shelf_of self.new ≡ record (shelf_of self.old)
+            { counts = kept_at (shelf_of self.old).counts name.now }) }
         ensures err { OnErr result (shelf_of self.new ≡ shelf_of self.old) }
     {
         let unread = open(self.alloc, &self.files, name)?;
@@ -107,12 +119,14 @@ impl Files for MemFiles {
 
     fn retire(&mut self, src: MemSource)
         requires { IsKept self.old src.name }
-        ensures told { (shelf_of self.new).files ≡ (shelf_of self.old).files }
+        ensures known { (shelf_of self.new).files ≡ (shelf_of self.old).files }
         ensures keeps { (n : List ℕ) → IsKept self.old n → IsKept self.new n }
         ensures later { NoneFalls (faults_of self.old) (faults_of self.new) }
-        ensures rose { Rose 0 src.faults → Rose (faults_of self.old src.name) (faults_of self.new src.name) }
+        ensures rose { Rose 0 src.faults → Rose (faults_of self.old src.name)
+            (faults_of self.new src.name) }
 
-        ensures faulty { 0 < src.faults → shelf_of self.new ≡ record (shelf_of self.old) { counts = raised_at (shelf_of self.old).counts src.name } }
+        ensures faulty { 0 < src.faults → shelf_of self.new ≡ record (shelf_of self.old)
+            { counts = raised_at (shelf_of self.old).counts src.name } }
         ensures faultless { src.faults ≡ 0 → shelf_of self.new ≡ shelf_of self.old }
     {
         if src.has_faults() {

@@ -1,5 +1,6 @@
 // A sink in memory.
-ghost use Rattle.std.specs.Prelude.{◌≡◌, ◌≤◌, ◌++◌, [], ◌∷◌, Some, min, length, take, Contains, IsErr, IfOk, OnOk, OnErr};
+ghost use Rattle.std.specs.Prelude.{◌≡◌, ◌≤◌, ◌++◌, [], ◌∷◌, Some, min, length, take, Contains};
+ghost use Rattle.std.specs.Prelude.{IsErr, IfOk, OnOk, OnErr};
 ghost use Rattle.std.specs.Io.KnownBytes.{WriteAppends};
 ghost use Rattle.pipes_edge.specs.Causes.{HasCause, TakesSome, raised};
 
@@ -10,7 +11,8 @@ use std::marker::Model;
 
 /// A sink in memory, which takes at most some bytes in one write. It tells its bytes.
 ///
-/// A number is that of a write to this sink, from 1 on; past the greatest `u64` the number stays there.
+/// A number is that of a write to this sink, from 1 on; past the greatest `u64` the number stays
+/// there.
 #[derive(Debug, Drop)]
 pub struct MemSink {
     bytes: Vec<u8>,
@@ -26,7 +28,14 @@ impl Model for MemSink {
 
     ghost Value = { Collecting };
 
-    ghost view = { λ s. record { bytes = s.bytes.items; most = s.most; calls = s.calls; failing = s.failing.items; faults = s.faults } };
+    ghost view = { λ s. record {
+      bytes = s.bytes.items;
+      most = s.most;
+      calls = s.calls;
+      failing =
+          s.failing.items;
+      faults = s.faults;
+    } };
 
     ghost invariant = { λ s. 1 ≤ s.most };
 }
@@ -47,7 +56,10 @@ impl MemSink {
 
     /// Lets the write with this number fail too. 0 is the number of none.
     pub fn fail_at(&mut self, call: u64) -> Result<(), Memory>
-        ensures ok { OnOk result (self.new ≡ record self.old { failing = self.old.failing ++ call ∷ [] }) }
+        ensures ok { OnOk result (self.new ≡ record self.old {
+          failing = self.old.failing
+              ++ call ∷ [];
+        }) }
         ensures err { OnErr result (self.new ≡ self.old) }
     {
         self.failing.push(call)?;
@@ -67,7 +79,8 @@ impl Sink for MemSink {
 
     ghost faults = { λ s. s.faults };
 
-    /// Takes as many bytes of the piece as one write may, unless the number of this write is listed. Where no memory is
+    /// Takes as many bytes of the piece as one write may, unless the number of this write is
+    /// listed. Where no memory is
     /// left it fails too.
     fn write(&mut self, bytes: &[u8]) -> Result<usize, Failed>
         ensures bound { TakesSome result bytes.now }
@@ -76,8 +89,15 @@ impl Sink for MemSink {
 
         ensures fails { Contains self.old.failing (raised self.old.calls) → IsErr result }
         ensures count { IfOk result (λ n. n ≡ min (length bytes.now) self.old.most) }
-        ensures ok { IfOk result (λ n. self.new ≡ record self.old { bytes = self.old.bytes ++ take n bytes.now; calls = raised self.old.calls }) }
-        ensures err { OnErr result (self.new ≡ record self.old { calls = raised self.old.calls; faults = raised self.old.faults }) }
+        ensures ok { IfOk result (λ n. self.new ≡ record self.old {
+          bytes = self.old.bytes
+              ++ take n bytes.now;
+          calls = raised self.old.calls;
+        }) }
+        ensures err { OnErr result (self.new ≡ record self.old {
+          calls = raised self.old.calls;
+          faults = raised self.old.faults;
+        }) }
     {
         self.calls = self.calls.saturating_add(1);
         let count = bytes.len().min(self.most as usize);

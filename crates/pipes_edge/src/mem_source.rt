@@ -1,5 +1,6 @@
 // A source over a file in memory.
-ghost use Rattle.std.specs.Prelude.{◌≡◌, ◌↔◌, ℕ, List, Some, min, length, drop, Contains, IsErr, IfOk, OnErr, MatchResult};
+ghost use Rattle.std.specs.Prelude.{◌≡◌, ◌↔◌, ℕ, List, Some, min, length, drop, Contains, IsErr};
+ghost use Rattle.std.specs.Prelude.{IfOk, OnErr, MatchResult};
 ghost use Rattle.std.specs.Io.{ReadsAtMost};
 ghost use Rattle.std.specs.Io.KnownBytes.{ReadConsumes};
 ghost use Rattle.pipes_edge.specs.Causes.{HasCause, raised};
@@ -10,7 +11,8 @@ use std::marker::Model;
 
 /// A source over a file in memory, found by [`MemFiles`](crate::MemFiles). It tells its bytes.
 ///
-/// The reads that fail are those that were listed when the source was found. A number is that of a read of this
+/// The reads that fail are those that were listed when the source was found. A number is that of a
+/// read of this
 /// source, from 1 on; past the greatest `u64` the number stays there.
 #[derive(Debug, Drop)]
 pub struct MemSource {
@@ -27,14 +29,27 @@ impl Model for MemSource {
 
     ghost Value = { Reading };
 
-    ghost view = { λ s. record { name = string_bytes s.name; left = s.unread; calls = s.calls; failing = s.failing.items; faults = s.faults } };
+    ghost view = { λ s. record {
+      name = string_bytes s.name;
+      left = s.unread;
+      calls = s.calls;
+      failing = s.failing.items;
+      faults = s.faults;
+    } };
 }
 
 impl MemSource {
     ghost use Rattle.std.specs.Prelude.{◌≡◌, ◌<◌, ◌↔◌, IsTrue, string_bytes};
 
     pub(crate) fn new(name: String, unread: Unread, failing: Vec<u64>) -> Self
-        ensures { result ≡ record { name = string_bytes name; left = unread; calls = 0; failing = failing.items; faults = 0 } }
+        ensures { result ≡ record {
+          name = string_bytes name;
+          left = unread;
+          calls = 0;
+          failing =
+              failing.items;
+          faults = 0;
+        } }
     {
         MemSource {
             name,
@@ -76,9 +91,16 @@ impl Source for MemSource {
 
         ensures fails { IsErr result ↔ Contains self.old.failing (raised self.old.calls) }
         ensures count { IfOk result (λ n. n ≡ min (length self.old.left) (length buf.old)) }
-        ensures buffer { MatchResult result (λ n. drop n buf.new ≡ drop n buf.old) (λ _. buf.new ≡ buf.old) }
-        ensures ok { IfOk result (λ n. self.new ≡ record self.old { left = drop n self.old.left; calls = raised self.old.calls }) }
-        ensures err { OnErr result (self.new ≡ record self.old { calls = raised self.old.calls; faults = raised self.old.faults }) }
+        ensures buffer { MatchResult result (λ n. drop n buf.new ≡ drop n buf.old)
+            (λ _. buf.new ≡ buf.old) }
+        ensures ok { IfOk result (λ n. self.new ≡ record self.old {
+          left = drop n self.old.left;
+          calls = raised self.old.calls;
+        }) }
+        ensures err { OnErr result (self.new ≡ record self.old {
+          calls = raised self.old.calls;
+          faults = raised self.old.faults;
+        }) }
     {
         self.calls = self.calls.saturating_add(1);
         if self.failing.contains(&self.calls) {

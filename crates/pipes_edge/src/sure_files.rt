@@ -11,7 +11,8 @@ use std::alloc::Global;
 use std::collections::BTreeMap;
 use std::marker::Model;
 
-/// Files in memory, which tell their names and bytes. Each count of faults stays 0, so no call answers that it failed.
+/// Files in memory, which tell their names and bytes. Each count of faults stays 0, so no call
+/// answers that it failed.
 #[derive(Debug, Drop)]
 pub struct SureFiles {
     alloc: Global,
@@ -38,10 +39,10 @@ impl SureFiles {
     ghost use Rattle.std.specs.Prelude.{◌≡◌, Some, OnOk, OnErr};
     ghost use Rattle.pipes_edge.specs.ByName.{set_at};
     ghost use Rattle.pipes_edge.specs.Outside.{no_files};
-    ghost use Rattle.pipes_edge.specs.SureFiles.{names_of};
+    ghost use Rattle.pipes_edge.specs.SureFiles.{sure_names};
 
     pub fn new(alloc: Global) -> Self
-        ensures { names_of result ≡ no_files }
+        ensures { sure_names result ≡ no_files }
     {
         SureFiles {
             alloc,
@@ -49,11 +50,13 @@ impl SureFiles {
         }
     }
 
-    /// Puts a file with these bytes under the name, in the place of one that was there. Sources that were found before
+    /// Puts a file with these bytes under the name, in the place of one that was there. Sources
+    /// that were found before
     /// keep the old bytes.
     pub fn add(&mut self, name: &str, bytes: &[u8]) -> Result<(), Memory>
-        ensures ok { OnOk result (names_of self.new ≡ set_at (names_of self.old) name.now (Some bytes.now)) }
-        ensures err { OnErr result (names_of self.new ≡ names_of self.old) }
+        ensures ok { OnOk result (sure_names self.new ≡ set_at (sure_names self.old) name.now
+            (Some bytes.now)) }
+        ensures err { OnErr result (sure_names self.new ≡ sure_names self.old) }
     {
         put(self.alloc, &mut self.files, name, bytes)
     }
@@ -75,7 +78,8 @@ impl Source for SureSource {
         ensures never_fails { IsOk result }
         ensures count { IfOk result (λ n. n ≡ min (length self.old.left) (length buf.old)) }
         ensures buffer { IfOk result (λ n. drop n buf.new ≡ drop n buf.old) }
-        ensures left { IfOk result (λ n. self.new ≡ record self.old { left = drop n self.old.left }) }
+        ensures left { IfOk result (λ n. self.new ≡ record self.old
+            { left = drop n self.old.left }) }
     {
         Ok(self.unread.read(buf))
     }
@@ -84,11 +88,11 @@ impl Source for SureSource {
 impl Files for SureFiles {
     ghost use Rattle.std.specs.Prelude.{◌≡◌, Some, IfOk, IsErrOf, ⊤};
     ghost use Rattle.pipes_edge.specs.Outside.{Finds};
-    ghost use Rattle.pipes_edge.specs.SureFiles.{names_of};
+    ghost use Rattle.pipes_edge.specs.SureFiles.{sure_names};
 
     type Src = SureSource;
 
-    ghost told = { λ f. Some (names_of f) };
+    ghost known = { λ f. Some (sure_names f) };
 
     ghost faults = { λ f n. 0 };
 
@@ -98,8 +102,8 @@ impl Files for SureFiles {
 
     /// A source over a copy of the file.
     fn find_src(&mut self, name: &str) -> Result<SureSource, FindFault>
-        ensures files { names_of self.new ≡ names_of self.old }
-        ensures answer { Finds (λ src. Some src.left) (Some (names_of self.old)) name.now result }
+        ensures files { sure_names self.new ≡ sure_names self.old }
+        ensures answer { Finds (λ src. Some src.left) (Some (sure_names self.old)) name.now result }
         ensures name { IfOk result (λ src. src.name ≡ name.now) }
         ensures never_fails { IsErrOf result FindFault.Failed → ⊥ }
     {
@@ -109,6 +113,6 @@ impl Files for SureFiles {
     }
 
     fn retire(&mut self, _src: SureSource)
-        ensures files { names_of self.new ≡ names_of self.old }
+        ensures files { sure_names self.new ≡ sure_names self.old }
     {}
 }

@@ -1,4 +1,4 @@
-// Bytes in memory, read from the front.
+// Bytes in memory, read from the prefix.
 ghost use Rattle.std.specs.Prelude.{◌≡◌, ◌<◌, ◌++◌, min, length, take, drop, []};
 
 use std::marker::Model;
@@ -27,7 +27,7 @@ impl Unread {
         Unread { bytes, place: 0 }
     }
 
-    // Moves as many bytes as are left and fit into the front of the buffer.
+    // Moves as many bytes as are left and fit into the start of the buffer.
     pub(crate) fn read(&mut self, buf: &mut [u8]) -> usize
         ensures count { result ≡ min (length self.old) (length buf.old) }
         ensures bytes { self.old ≡ take result buf.new ++ self.new }

@@ -1,5 +1,6 @@
 -- What a reader of arrivals has ahead, and what a call of it takes.
-use Rattle.std.specs.Prelude.{◌≡◌, ℕ, ◌+◌, ◌<◌, ◌≤◌, List, [], ◌∷◌, filter, Option, Some, None, option_map, ⊤}
+use Rattle.std.specs.Prelude.{◌≡◌, ℕ, ◌+◌, ◌<◌, ◌≤◌, List, [], ◌∷◌, filter, Option, Some, None}
+use Rattle.std.specs.Prelude.{option_map, ⊤}
 use Rattle.std.specs.Io.KnownBytes.{prepend_known}
 use Rattle.pipes_time.specs.Interval.{horizon}
 use Rattle.pipes_tuple.specs.declared.value.Kind.{Kind}
@@ -12,14 +13,15 @@ use Rattle.pipes_feed.specs.declared.reason.Reason.{Reason}
 use Rattle.pipes_feed.specs.declared.reason.Reason.TheVariants as reason
 use Rattle.pipes_feed.specs.declared.reader.Next.{Next}
 use Rattle.pipes_feed.specs.declared.reader.Next.TheVariants as next
-use Rattle.pipes_feed.specs.Reached.{Reached, floor, newest_after, beat_after, after_line, most_bytes, most_items}
+use Rattle.pipes_feed.specs.Reached.{Reached, stamp_floor, newest_after, beat_after, after_line}
+use Rattle.pipes_feed.specs.Reached.{most_bytes, most_items}
 use Rattle.pipes_feed.specs.Judged.{judge}
 use Rattle.pipes_feed.specs.Items.{Items, arrivals_from, no_more, put, stamp_in}
 use Rattle.pipes_feed.specs.State.{ReaderState}
 
 -- the arrivals of the bytes from here on, where it is known which bytes the source has left
-abbrev pub ahead : ReaderState → Option (List ℕ) → Option Items
-ahead reader left =
+abbrev pub arrivals_ahead : ReaderState → Option (List ℕ) → Option Items
+arrivals_ahead reader left =
     option_map (λ bytes. arrivals_from reader.kinds reader.slack reader.reached (lines_of bytes))
     (prepend_known reader.unread left)
 
@@ -31,7 +33,8 @@ TakesArrival (Some before) now (next.Item item) = option_map (put item) now ≡ 
 TakesArrival (Some before) now (next.Ended reason.AtEnd) = before ≡ no_more reason.AtEnd
 TakesArrival (Some before) now (next.Ended (reason.Row line why)) =
     before ≡ no_more (reason.Row line why)
-TakesArrival (Some before) now (next.Ended (reason.Limit line)) = before ≡ no_more (reason.Limit line)
+TakesArrival (Some before) now (next.Ended (reason.Limit line)) =
+    before ≡ no_more (reason.Limit line)
 TakesArrival (Some before) now (next.Ended reason.Failed) = ⊤
 TakesArrival (Some before) now (next.Ended reason.Memory) = ⊤
 
@@ -51,9 +54,10 @@ abbrev pub whole_lines : List ℕ → List Line
 whole_lines bytes = filter (λ l. l.ended) (lines_of bytes)
 
 -- the line is passed over, and is what the reading goes past
-pub record IsPassed (kinds : List Kind) (slack : ℕ) (before now : Reached) (line : Line) : Type 0 where
-  pub judged : judge kinds slack before line ≡ Pass
-  pub after : now ≡ after_line before (size_of line)
+pub record IsPassed (kinds : List Kind) (slack : ℕ) (before now : Reached) (line : Line) : Type 0
+  where
+    pub judged : judge kinds slack before line ≡ Pass
+    pub after : now ≡ after_line before (size_of line)
 
 -- each of the lines is passed over: none is an arrival, and none is refused
 abbrev pub ArePassed : List Kind → ℕ → Reached → List Line → Type 0
@@ -80,8 +84,9 @@ ItemFits kinds (Row stamp tuple) = Fits tuple kinds
 ItemFits kinds (Beat stamp) = ⊤
 
 -- an arrival, by how far the source was read before it and after it
-pub record ArrivalFollows (kinds : List Kind) (slack : ℕ) (before now : Reached) (item : Item) : Type 0 where
-  pub at_floor : floor slack before ≤ stamp_in item
+pub record ArrivalFollows (kinds : List Kind) (slack : ℕ) (before now : Reached)
+    (item : Item) : Type 0 where
+  pub at_floor : stamp_floor slack before ≤ stamp_in item
   pub in_range : stamp_in item < horizon
   pub newest : now.newest ≡ newest_after before.newest item
   pub beat : now.beat ≡ beat_after before.beat item

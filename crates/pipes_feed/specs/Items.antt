@@ -1,6 +1,7 @@
 -- The arrivals of a source's bytes, line by line, up to the first line that is refused or past a
 -- limit; and its items, which are the arrivals in the order of their stamps.
-use Rattle.std.specs.Prelude.{ℕ, ◌+◌, List, [], ◌∷◌, ◌++◌, ◌==◌, nat_le, nat_lt, filter, if◌then◌else◌}
+use Rattle.std.specs.Prelude.{ℕ, ◌+◌, List, [], ◌∷◌, ◌++◌, ◌==◌, nat_le, nat_lt, filter}
+use Rattle.std.specs.Prelude.{if◌then◌else◌}
 use Rattle.pipes_tuple.specs.declared.value.Kind.{Kind}
 use Rattle.pipes_window.specs.declared.item.Item.{Item}
 use Rattle.pipes_window.specs.declared.item.Item.TheVariants.{Row, Beat}

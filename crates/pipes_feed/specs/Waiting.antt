@@ -5,8 +5,8 @@ use Rattle.pipes_window.specs.declared.item.Item.{Item}
 use Rattle.pipes_feed.specs.Items.{stamp_in}
 
 -- the stamps never fall
-abbrev pub StampsRise : List Item → Type 0
-StampsRise items = IsNonDecreasingBy stamp_in items
+abbrev pub ArrivalsRise : List Item → Type 0
+ArrivalsRise items = IsNonDecreasingBy stamp_in items
 
 -- those with a stamp up to this one, and those with a greater one
 abbrev pub up_to : ℕ → List Item → List Item

@@ -1,7 +1,7 @@
 // The item that a record is.
-ghost use Rattle.std.specs.Prelude.{◌≡◌, ◌-◌, ◌^◌, ◌↔◌, ◌≤◌, ◌++◌, ◌∷◌, [], OnOk, min, vec_len, drop, length, IsTrue, IsSome, IfOk, IfSome};
-ghost use Rattle.std.specs.Str.Parse.{digits_value};
-ghost use Rattle.pipes_tuple.specs.Reading.{is_numeral, reading};
+ghost use Rattle.std.specs.Prelude.{◌≡◌, ◌≤◌, ◌++◌, ◌∷◌, [], OnOk, vec_len};
+ghost use Rattle.std.specs.Prelude.{drop, length, IfOk};
+ghost use Rattle.pipes_tuple.specs.Reading.{reading};
 ghost use Rattle.pipes_line.specs.Fields.{fields_in};
 ghost use Rattle.pipes_feed.specs.AnswersJudged.{AnswersJudged};
 ghost use Rattle.pipes_feed.specs.Judged as judged;
@@ -10,7 +10,7 @@ ghost use Rattle.pipes_feed.specs.declared.judge.Fault.TheVariants as faults;
 use crate::RowWhy;
 use pipes_line::Record;
 use pipes_time::{HORIZON, Memory};
-use pipes_tuple::{Kind, Schema, Tuple, Value, ValueRefusal};
+use pipes_tuple::{Kind, Schema, Tuple, Value, ValueRefusal, digits_value};
 use pipes_window::Item;
 use std::alloc::Global;
 
@@ -19,7 +19,7 @@ use std::alloc::Global;
 pub(crate) enum Fault {
     /// It is refused.
     Refused(RowWhy),
-    /// Want of memory.
+    /// Out of memory.
     Memory,
 }
 
@@ -47,7 +47,8 @@ pub(crate) fn item_of(
     line: &[u8],
     fields: &Record,
 ) -> Result<Item, Fault>
-    ensures { AnswersJudged (λ item. item) result (judged.item_of schema.now low (fields_in fields.now line.now)) }
+    ensures { AnswersJudged (λ item. item) result (judged.item_of schema.now low
+        (fields_in fields.now line.now)) }
 {
     let Some(field) = fields.field(line, 0) else {
         return Err(Fault::Refused(RowWhy::Fields));
@@ -73,7 +74,7 @@ fn columns_of(schema: &Schema, count: usize) -> Result<usize, RowWhy>
 fn stamp_of(field: &[u8]) -> Result<u64, RowWhy>
     ensures { result ≡ judged.stamp_of field.now }
 {
-    let Some(stamp) = number_of(field) else {
+    let Some(stamp) = digits_value(field) else {
         return Err(RowWhy::Stamp);
     };
     if stamp < HORIZON {
@@ -81,26 +82,6 @@ fn stamp_of(field: &[u8]) -> Result<u64, RowWhy>
     } else {
         Err(RowWhy::Range)
     }
-}
-
-// The number that the digits write, or the greatest of 64 bits where it is greater; none where they are no digits.
-fn number_of(digits: &[u8]) -> Option<u64>
-    ensures exact { IsSome result ↔ IsTrue (is_numeral digits.now) }
-    ensures value { IfSome result (λ number. number ≡ min (digits_value 10 digits.now) (2 ^ 64 - 1)) }
-{
-    if digits.is_empty() {
-        return None;
-    }
-    let mut number = 0u64;
-    for digit in digits {
-        if !digit.is_ascii_digit() {
-            return None;
-        }
-        number = number
-            .saturating_mul(10)
-            .saturating_add(u64::from(*digit - b'0'));
-    }
-    Some(number)
 }
 
 // A stamp that is not below the floor.
@@ -124,7 +105,8 @@ fn item_with(
     fields: &Record,
 ) -> Result<Item, Fault>
     requires { count ≡ length (drop 1 (fields_in fields.now line.now)) }
-    ensures { AnswersJudged (λ item. item) result (judged.item_with schema.now stamp (drop 1 (fields_in fields.now line.now))) }
+    ensures { AnswersJudged (λ item. item) result (judged.item_with schema.now stamp
+        (drop 1 (fields_in fields.now line.now))) }
 {
     if count == 0 {
         return Ok(Item::Beat(stamp));
@@ -141,7 +123,8 @@ fn values_of(
     fields: &Record,
 ) -> Result<Vec<Value>, Fault>
     ensures count { IfOk result (λ values. (1 ≤ vec_len values) × (vec_len values ≤ 32)) }
-    ensures values { AnswersJudged (λ values. values.items) result (judged.values_of 0 schema.now (drop 1 (fields_in fields.now line.now))) }
+    ensures values { AnswersJudged (λ values. values.items) result
+        (judged.field_values 0 schema.now (drop 1 (fields_in fields.now line.now))) }
 {
     let kinds = schema.as_slice();
     let mut values = with_room(alloc, kinds.len())?;
@@ -173,7 +156,8 @@ fn push(values: &mut Vec<Value>, value: Value) -> Result<(), Memory>
 
 // The value of a column.
 fn value_of(alloc: Global, column: u32, kind: Kind, field: &[u8]) -> Result<Value, Fault>
-    ensures { AnswersJudged (λ value. value) result (judged.value_of column (reading kind field.now)) }
+    ensures { AnswersJudged (λ value. value) result (judged.field_value column
+        (reading kind field.now)) }
 {
     match Value::read(alloc, kind, field) {
         Ok(value) => Ok(value),

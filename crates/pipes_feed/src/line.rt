@@ -41,7 +41,8 @@ pub(crate) fn judge(
     fields: &mut Record,
 ) -> Result<Verdict, Memory>
     requires { length text.now ≤ most_bytes }
-    ensures { IfOk result (λ verdict. verdict ≡ judged.judge schema.now slack place.now (record { text = text.now; ended = ended })) }
+    ensures { IfOk result (λ verdict. verdict ≡ judged.judge schema.now slack place.now
+        (record { text = text.now; ended = ended })) }
 {
     if MOST_BYTES < place.bytes() + size_of(text, ended) {
         return Ok(Verdict::Limit);
@@ -78,7 +79,8 @@ fn strip(text: &[u8]) -> &[u8]
 }
 
 fn judge_header(schema: &Schema, shape: Shape, line: &[u8], fields: &Record) -> Verdict
-    ensures { (content : Content) → Shows shape (fields_in fields.now line.now) content → result ≡ judged.judge_header schema.now content }
+    ensures { (content : Content) → Shows shape (fields_in fields.now line.now) content
+        → result ≡ judged.judge_header schema.now content }
 {
     match shape {
         Shape::Single if fields.len() == schema.as_slice().len() + 1 => Verdict::Pass,
@@ -95,7 +97,9 @@ fn judge_later(
     line: &[u8],
     fields: &Record,
 ) -> Result<Verdict, Memory>
-    ensures { IfOk result (λ verdict. (content : Content) → Shows shape (fields_in fields.now line.now) content → verdict ≡ judged.judge_later schema.now slack place.now content) }
+    ensures { IfOk result (λ verdict. (content : Content) → Shows shape
+        (fields_in fields.now line.now) content → verdict ≡ judged.judge_later schema.now slack
+        place.now content) }
 {
     match shape {
         Shape::Blank => Ok(Verdict::Pass),

@@ -1,7 +1,9 @@
 // How far a source has been read.
 ghost use Rattle.std.specs.Prelude.{◌≡◌, ◌≤◌, ◌<◌, ◌+◌};
 ghost use Rattle.pipes_feed.specs.Items.{stamp_in};
-ghost use Rattle.pipes_feed.specs.Reached.{source_start, floor, after_line, after_item, most_bytes, most_items};
+ghost use Rattle.pipes_feed.specs.Reached.{source_start, stamp_floor, after_line, after_item};
+ghost use Rattle.pipes_feed.specs.Reached.{most_bytes};
+ghost use Rattle.pipes_feed.specs.Reached.{most_items};
 ghost use Rattle.pipes_time.specs.Interval.{horizon};
 
 use pipes_window::Item;
@@ -29,9 +31,17 @@ impl Model for Place {
 
     ghost Value = { Reached };
 
-    ghost view = { λ p. record { lines = p.lines; bytes = p.bytes; items = p.items; newest = p.newest; beat = p.beat } };
+    ghost view = { λ p. record {
+      lines = p.lines;
+      bytes = p.bytes;
+      items = p.items;
+      newest =
+          p.newest;
+      beat = p.beat;
+    } };
 
-    ghost invariant = { λ p. (p.lines ≤ p.bytes) × (p.bytes ≤ 1073741824) × (p.items ≤ 4000000) × (p.newest < 1000000000000000) × (p.beat < 1000000000000000) };
+    ghost invariant = { λ p. (p.lines ≤ p.bytes) × (p.bytes ≤ 1073741824) × (p.items ≤ 4000000)
+        × (p.newest < 1000000000000000) × (p.beat < 1000000000000000) };
 }
 
 impl Place {
@@ -75,7 +85,7 @@ impl Place {
 
     /// The least stamp that an arrival may have, where rows may come late by up to the slack.
     pub(crate) fn floor(&self, slack: u64) -> u64
-        ensures value { result ≡ floor slack self.now }
+        ensures value { result ≡ stamp_floor slack self.now }
         ensures bound { result < horizon }
     {
         self.newest.saturating_sub(slack).max(self.beat)

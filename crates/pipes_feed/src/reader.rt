@@ -1,10 +1,12 @@
 // The reader of arrivals.
-ghost use Rattle.std.specs.Prelude.{◌≡◌, ◌≢◌, ◌≤◌, ◌<◌, ◌∷◌, List, length, IfOk, IfSome, IfNone, Some, None, ⊤};
+ghost use Rattle.std.specs.Prelude.{◌≡◌, ◌≢◌, ◌≤◌, ◌<◌, ◌∷◌, List, length, IfOk, IfSome, IfNone};
+ghost use Rattle.std.specs.Prelude.{Some, None, ⊤};
 ghost use Rattle.pipes_edge.specs.Causes.{Rose};
 ghost use Rattle.pipes_line.specs.Lines.{Line};
 ghost use Rattle.pipes_line.specs.Lines as lines;
-ghost use Rattle.pipes_feed.specs.Ahead.{ahead, TakesArrival, StepsAhead, ArrivalFollows, PassesLine, IsPassed, NoneWaits, MatchNext};
-ghost use Rattle.pipes_feed.specs.Reached.{floor, most_bytes};
+ghost use Rattle.pipes_feed.specs.Ahead.{arrivals_ahead, TakesArrival, StepsAhead, ArrivalFollows};
+ghost use Rattle.pipes_feed.specs.Ahead.{PassesLine, IsPassed, NoneWaits, MatchNext};
+ghost use Rattle.pipes_feed.specs.Reached.{stamp_floor, most_bytes};
 ghost use Rattle.pipes_feed.specs.Items as items;
 ghost use Rattle.pipes_feed.specs.Items.{arrivals_from};
 ghost use Rattle.pipes_feed.specs.State.{fresh_reader};
@@ -46,7 +48,14 @@ impl Model for ItemReader {
 
     ghost Value = { ReaderState };
 
-    ghost view = { λ r. record { kinds = r.schema; slack = r.slack; reached = r.place; unread = r.lines.unread; ended = r.ended } };
+    ghost view = { λ r. record {
+      kinds = r.schema;
+      slack = r.slack;
+      reached = r.place;
+      unread =
+          r.lines.unread;
+      ended = r.ended;
+    } };
 }
 
 impl ItemReader {
@@ -72,15 +81,22 @@ impl ItemReader {
     /// bytes read before. After the end, out of memory among its reasons, the same end is reported
     /// and nothing is read.
     pub fn next<S: Source>(&mut self, src: &mut S) -> Next
-        ensures takes { self.old.ended ≡ None → TakesArrival (ahead self.old (S.left src.old)) (ahead self.new (S.left src.new)) result }
-        ensures follows { MatchNext result (ArrivalFollows self.old.kinds self.old.slack self.old.reached self.new.reached) (λ _. ⊤) }
+        ensures takes { self.old.ended ≡ None → TakesArrival
+            (arrivals_ahead self.old (S.left src.old))
+            (arrivals_ahead self.new (S.left src.new)) result }
+        ensures follows { MatchNext result (ArrivalFollows self.old.kinds self.old.slack
+            self.old.reached self.new.reached) (λ _. ⊤) }
         ensures kinds { self.new.kinds ≡ self.old.kinds }
         ensures slack { self.new.slack ≡ self.old.slack }
-        ensures ended { MatchNext result (λ _. (self.old.ended ≡ None) × (self.new.ended ≡ None)) (λ reason. self.new.ended ≡ Some reason) }
-        ensures waiting { self.old.ended ≡ None → result ≡ Next.Ended Reason.Failed → NoneWaits self.old }
-        ensures same { IfSome self.old.ended (λ reason. (result ≡ Next.Ended reason) × (self.new ≡ self.old) × (src.new ≡ src.old)) }
+        ensures ended { MatchNext result (λ _. (self.old.ended ≡ None) × (self.new.ended ≡ None))
+            (λ reason. self.new.ended ≡ Some reason) }
+        ensures waiting { self.old.ended ≡ None → result ≡ Next.Ended Reason.Failed
+            → NoneWaits self.old }
+        ensures same { IfSome self.old.ended (λ reason. (result ≡ Next.Ended reason)
+            × (self.new ≡ self.old) × (src.new ≡ src.old)) }
         ensures later { S.faults src.old ≤ S.faults src.new }
-        ensures cause { self.old.ended ≡ None → result ≡ Next.Ended Reason.Failed → Rose (S.faults src.old) (S.faults src.new) }
+        ensures cause { self.old.ended ≡ None → result ≡ Next.Ended Reason.Failed
+            → Rose (S.faults src.old) (S.faults src.new) }
         ensures name { S.name src.new ≡ S.name src.old }
         ensures found_at { S.found_at src.new ≡ S.found_at src.old }
     {
@@ -101,15 +117,18 @@ impl ItemReader {
     /// The least stamp that a later arrival may have: the greatest stamp of a row so far less the
     /// slack, or the greatest of a heartbeat.
     pub fn floor(&self) -> u64
-        ensures { result ≡ floor self.now.slack self.now.reached }
+        ensures { result ≡ stamp_floor self.now.slack self.now.reached }
     {
         self.place.floor(self.slack)
     }
 
     // Reads a line; none where it is passed over.
     fn step<S: Source>(&mut self, src: &mut S) -> Option<Next>
-        ensures steps { StepsAhead (ahead self.old (S.left src.old)) (ahead self.new (S.left src.new)) result }
-        ensures follows { IfSome result (λ next. MatchNext next (ArrivalFollows self.old.kinds self.old.slack self.old.reached self.new.reached) (λ _. ⊤)) }
+        ensures steps { StepsAhead (arrivals_ahead self.old (S.left src.old))
+            (arrivals_ahead self.new (S.left src.new)) result }
+        ensures follows { IfSome result (λ next. MatchNext next
+            (ArrivalFollows self.old.kinds self.old.slack self.old.reached self.new.reached)
+            (λ _. ⊤)) }
         ensures passes { IfNone result (PassesLine self.old.reached self.new.reached) }
         ensures kinds { self.new.kinds ≡ self.old.kinds }
         ensures slack { self.new.slack ≡ self.old.slack }
@@ -117,7 +136,8 @@ impl ItemReader {
         ensures waiting { result ≡ Some (Next.Ended Reason.Failed) → NoneWaits self.old }
         ensures passed { result ≡ None → NoneWaits self.new → NoneWaits self.old }
         ensures later { S.faults src.old ≤ S.faults src.new }
-        ensures cause { result ≡ Some (Next.Ended Reason.Failed) → Rose (S.faults src.old) (S.faults src.new) }
+        ensures cause { result ≡ Some (Next.Ended Reason.Failed)
+            → Rose (S.faults src.old) (S.faults src.new) }
         ensures name { S.name src.new ≡ S.name src.old }
         ensures found_at { S.found_at src.new ≡ S.found_at src.old }
     {
@@ -169,11 +189,16 @@ fn take_line(
 ) -> Option<Next>
     requires some { 0 < lines.size_of (record { text = text.now; ended = ended }) }
     requires short { length text.now ≤ most_bytes }
-    ensures steps { (more : List Line) → StepsAhead (Some (arrivals_from schema.now slack place.old (record { text = text.now; ended = ended } ∷ more))) (Some (arrivals_from schema.now slack place.new more)) result }
-    ensures follows { IfSome result (λ next. MatchNext next (ArrivalFollows schema.now slack place.old place.new) (λ _. ⊤)) }
+    ensures steps { (more : List Line)
+        → StepsAhead (Some (arrivals_from schema.now slack place.old
+        (record { text = text.now; ended = ended } ∷ more)))
+        (Some (arrivals_from schema.now slack place.new more)) result }
+    ensures follows { IfSome result
+        (λ next. MatchNext next (ArrivalFollows schema.now slack place.old place.new) (λ _. ⊤)) }
     ensures passes { IfNone result (PassesLine place.old place.new) }
     ensures reads { result ≢ Some (Next.Ended Reason.Failed) }
-    ensures passed { result ≡ None → IsPassed schema.now slack place.old place.new (record { text = text.now; ended = ended }) }
+    ensures passed { result ≡ None → IsPassed schema.now slack place.old place.new
+        (record { text = text.now; ended = ended }) }
 {
     let Ok(verdict) = judge(alloc, schema, slack, place, text, ended, fields) else {
         return Some(Next::Ended(Reason::Memory));

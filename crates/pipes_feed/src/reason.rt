@@ -6,7 +6,8 @@ use pipes_tuple::ValueRefusal;
 pub enum RowWhy {
     /// Line 1 is missing, or is not one record with a field more than the source has columns.
     Header,
-    /// The line has several records, or a record of another number of fields than one or a header's.
+    /// The line has several records, or a record of another number of fields than one or a
+    /// header's.
     Fields,
     /// The first field is not one or more digits.
     Stamp,

@@ -1,10 +1,11 @@
 // Items that wait for those that may still come before them.
-ghost use Rattle.std.specs.Prelude.{◌≡◌, ◌<◌, ◌≤◌, [], ◌∷◌, OnOk, OnErr, IfSome, IfNone, take, drop};
+ghost use Rattle.std.specs.Prelude.{◌≡◌, ◌<◌, ◌≤◌, [], ◌∷◌, OnOk, OnErr, IfSome, IfNone, take};
+ghost use Rattle.std.specs.Prelude.{drop};
 ghost use Rattle.std.specs.List.{All};
 ghost use Rattle.std.specs.VecDeque.{deque_len};
 ghost use Rattle.pipes_feed.specs.Items as items;
 ghost use Rattle.pipes_feed.specs.Items.{placed_item};
-ghost use Rattle.pipes_feed.specs.Waiting.{StampsRise, up_to, past};
+ghost use Rattle.pipes_feed.specs.Waiting.{ArrivalsRise, up_to, past};
 
 use pipes_time::Memory;
 use pipes_window::Item;
@@ -22,13 +23,13 @@ pub struct Reorder {
 impl Model for Reorder {
     ghost use Rattle.std.specs.Prelude.{List};
     ghost use Rattle.pipes_window.specs.declared.item.Item.{Item};
-    ghost use Rattle.pipes_feed.specs.Waiting.{StampsRise};
+    ghost use Rattle.pipes_feed.specs.Waiting.{ArrivalsRise};
 
     ghost Value = { List Item };
 
     ghost view = { λ r. r.waiting.items };
 
-    ghost invariant = { λ r. StampsRise r.waiting.items };
+    ghost invariant = { λ r. ArrivalsRise r.waiting.items };
 }
 
 // The stamp of an item.
@@ -43,7 +44,7 @@ fn stamp_in(item: &Item) -> u64
 
 // How many have a stamp up to this one: these come first.
 fn count_up_to(waiting: &VecDeque<Item>, stamp: u64) -> usize
-    requires { StampsRise waiting.now.items }
+    requires { ArrivalsRise waiting.now.items }
     ensures bound { result ≤ deque_len waiting.now }
     ensures first { take result waiting.now.items ≡ up_to stamp waiting.now.items }
     ensures rest { drop result waiting.now.items ≡ past stamp waiting.now.items }
@@ -61,7 +62,8 @@ impl Reorder {
         }
     }
 
-    /// One more item waits, after those whose stamps are no greater. Out of memory, nothing changes.
+    /// One more item waits, after those whose stamps are no greater. Out of memory, nothing
+    /// changes.
     pub fn put(&mut self, item: Item) -> Result<(), Memory>
         ensures put { OnOk result (self.new ≡ placed_item item self.old) }
         ensures memory { OnErr result (self.new ≡ self.old) }
@@ -74,8 +76,10 @@ impl Reorder {
     /// The first of those that wait, where its stamp is at most the floor: nothing comes before it
     /// any more. It waits no longer.
     pub fn take_due(&mut self, floor: u64) -> Option<Item>
-        ensures due { IfSome result (λ item. (self.old ≡ item ∷ self.new) × (items.stamp_in item ≤ floor)) }
-        ensures none { IfNone result ((self.new ≡ self.old) × All (λ i. floor < items.stamp_in i) self.old) }
+        ensures due { IfSome result (λ item. (self.old ≡ item ∷ self.new)
+            × (items.stamp_in item ≤ floor)) }
+        ensures none { IfNone result ((self.new ≡ self.old) × All (λ i. floor < items.stamp_in i)
+            self.old) }
     {
         match self.waiting.front() {
             Some(first) if stamp_in(first) <= floor => self.waiting.pop_front(),

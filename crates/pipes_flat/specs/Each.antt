@@ -1,5 +1,6 @@
 -- An operator with one port that answers each element by itself.
-use Rattle.std.specs.Prelude.{◌≡◌, Bool, false, List, [], ◌∷◌, ◌++◌, Option, Some, None, if◌then◌else◌, filter_map}
+use Rattle.std.specs.Prelude.{◌≡◌, Bool, false, List, [], ◌∷◌, ◌++◌, Option, Some, None}
+use Rattle.std.specs.Prelude.{if◌then◌else◌, filter_map}
 use Rattle.std.specs.Option.{option_map}
 use Rattle.std.specs.List.{All}
 use Rattle.pipes_tuple.specs.declared.value.Kind.{Kind}
@@ -10,9 +11,9 @@ use Rattle.pipes_stream.specs.declared.message.Message.TheVariants as message
 use Rattle.pipes_stream.specs.Progress.{Progress}
 use Rattle.pipes_stream.specs.Lists.{run, start_of_list, Valid, elements}
 use Rattle.pipes_stream.specs.Lawful.{Lists, MessageFits}
-use Rattle.pipes_plan.specs.declared.expr.Expr.{Expr}
-use Rattle.pipes_plan.specs.ExprValue.{Row, passes}
-use Rattle.pipes_plan.specs.Algebra.{values_of}
+use Rattle.pipes_expr.specs.declared.expr.Expr.{Expr}
+use Rattle.pipes_expr.specs.ExprValue.{Row, passes}
+use Rattle.pipes_relation.specs.Relations.{values_of}
 
 -- the row itself, where the condition is true on it
 abbrev pub kept : Expr → Row → Option Row
@@ -37,8 +38,10 @@ sent_for answer (message.Elem e) = sent_for_elem e (answer e.tuple)
 sent_for answer (message.Beat at) = message.Beat at
 sent_for answer message.End = message.End
 
--- The elements sent are those taken that have an answer, with it and their intervals, in order; the list sent is as far as the list taken.
-pub record StandsForEach (answer : Row → Option Row) (kinds : List Kind) (failed : Bool) (watch : Progress) (taken : Lists) (sent : List Message) : Type 0 where
+-- The elements sent are those taken that have an answer, with it and their intervals, in order; the
+-- list sent is as far as the list taken.
+pub record StandsForEach (answer : Row → Option Row) (kinds : List Kind) (failed : Bool)
+    (watch : Progress) (taken : Lists) (sent : List Message) : Type 0 where
   pub going : failed ≡ false
   pub taken_valid : Valid (taken 0)
   pub taken_fits : All (λ e. Fits e.tuple kinds) (elements (taken 0))
@@ -47,8 +50,10 @@ pub record StandsForEach (answer : Row → Option Row) (kinds : List Kind) (fail
   pub sent_run : run start_of_list sent ≡ run start_of_list (taken 0)
   pub elements_are : elements sent ≡ filter_map (answered answer) (elements (taken 0))
 
--- one message was put behind those that were there: what is sent for the message taken, where that fits
-pub record Posts (answer : Row → Option Row) (kinds : List Kind) (m : Message) (before now : List Message) : Type 0 where
+-- one message was put after those that were there: what is sent for the message taken, where that
+-- fits
+pub record Posts (answer : Row → Option Row) (kinds : List Kind) (m : Message)
+    (before now : List Message) : Type 0 where
   pub message : Message
   pub is : MessageFits m kinds → message ≡ sent_for answer m
   pub appended : now ≡ before ++ message ∷ []

@@ -3,9 +3,9 @@ use Rattle.std.specs.Prelude.{false, List, [], ◌++◌, map, unwrap_or}
 use Rattle.std.specs.List.{filter}
 use Rattle.pipes_tuple.specs.declared.value.Kind.{Kind}
 use Rattle.pipes_stream.specs.Lawful.{Task}
-use Rattle.pipes_plan.specs.declared.expr.Expr.{Expr}
-use Rattle.pipes_plan.specs.ExprValue.{passes}
-use Rattle.pipes_plan.specs.Algebra.{values_of}
+use Rattle.pipes_expr.specs.declared.expr.Expr.{Expr}
+use Rattle.pipes_expr.specs.ExprValue.{passes}
+use Rattle.pipes_relation.specs.Relations.{values_of}
 use Rattle.pipes_plan.specs.PlanKinds.{map_kinds}
 
 -- the rows on which the condition is true

@@ -1,38 +1,49 @@
 -- A union goes on to stand for longer lists, and is lawful.
-use Rattle.std.proofs.Common.{◌≡◌, ℕ, suc, ◌≤◌, ◌<◌, ◌+◌, min, Bool, true, false, cond, ◌&&◌, nat_lt, List, [], ◌∷◌, ◌++◌, map, length, refl, sym, ◌∙◌, subst, ap, arith, append_assoc, append-nil}
+use Rattle.std.proofs.Common.{◌≡◌, ℕ, suc, ◌≤◌, ◌<◌, ◌+◌, min, Bool, true, false, cond, ◌&&◌}
+use Rattle.std.proofs.Common.{nat_lt, List, [], ◌∷◌, ◌++◌, map, length, refl, sym, ◌∙◌, subst, ap}
+use Rattle.std.proofs.Common.{arith, append_assoc, append-nil}
 use Rattle.std.specs.List.{All}
 use Rattle.std.proofs.lemmas.Bool.{ltb-false}
-use Rattle.std.proofs.lemmas.List.Elements.{All-nil, All-cons, All-head, All-tail, All-append, All-weaker}
+use Rattle.std.proofs.lemmas.List.Elements.{All-nil, All-cons, All-head, All-tail, All-append}
+use Rattle.std.proofs.lemmas.List.Elements.{All-weaker}
 use Rattle.pipes_time.specs.Interval.{closed, IsInterval}
 use Rattle.pipes_tuple.specs.declared.value.Value.{Value}
 use Rattle.pipes_tuple.specs.declared.value.Kind.{Kind}
 use Rattle.pipes_tuple.specs.Kinds.{Fits}
 use Rattle.pipes_tuple.proofs.Bags.{SameBag-Perm}
-use Rattle.pipes_tuple.proofs.Perm.{Perm, then, Perm-refl, Perm-sym, Perm-equal, Perm-left, Perm-right, Perm-append_comm, count_by-Perm}
+use Rattle.pipes_tuple.proofs.Perm.{Perm, then, Perm-refl, Perm-sym, Perm-equal, Perm-left}
+use Rattle.pipes_tuple.proofs.Perm.{Perm-right, Perm-append_comm, count_by-Perm}
 use Rattle.pipes_stream.specs.declared.Elem.{Elem}
 use Rattle.pipes_stream.specs.declared.message.Message.{Message}
 use Rattle.pipes_stream.specs.declared.message.Message.TheVariants as message
 use Rattle.pipes_stream.specs.Progress.{Progress}
 use Rattle.pipes_stream.specs.Snapshot.{snapshot}
-use Rattle.pipes_stream.specs.Lists.{CanFollow, after, run, start_of_list, ValidFrom, Valid, beat, HasEnded, elements}
-use Rattle.pipes_stream.specs.Lawful.{Lists, Lawful, Takes, MessageFits, no_messages, least, all_elements, IsCovered, open_count}
-use Rattle.pipes_stream.proofs.Messages.{run-append, run-push, run-rises, valid-append, valid-push, elements-append, elements-map, beat-closed, beat-ended}
+use Rattle.pipes_stream.specs.Lists.{CanFollow, after, run, start_of_list, ValidFrom, Valid, beat}
+use Rattle.pipes_stream.specs.Lists.{HasEnded, elements}
+use Rattle.pipes_stream.specs.Lawful.{Lists, Lawful, Takes, MessageFits, no_messages, least}
+use Rattle.pipes_stream.specs.Lawful.{all_elements, IsCovered, open_count}
+use Rattle.pipes_stream.proofs.Messages.{run-append, run-push, run-rises, valid-append, valid-push}
+use Rattle.pipes_stream.proofs.Messages.{elements-append, elements-map, beat-closed, beat-ended}
 use Rattle.pipes_stream.proofs.Snapshots.{snapshot-append, snapshot-Perm, snapshot-above}
-use Rattle.pipes_stream.proofs.Ports.{floor-below, covered-itself, All-Perm, All-parts, open_count-all, open_count-append}
+use Rattle.pipes_stream.proofs.Ports.{floor-below, covered-itself, All-Perm, All-parts}
+use Rattle.pipes_stream.proofs.Ports.{open_count-all, open_count-append}
 use Rattle.pipes_sweep.specs.Waiting.{StartsRise, due, later}
 use Rattle.pipes_sweep.proofs.Places.{placed-Perm, due-later, due-below, later-above}
 use Rattle.pipes_flat.specs.declared.union.Union.{Union}
 use Rattle.pipes_flat.specs.Tasks.{union_task}
-use Rattle.pipes_flat.specs.Unions.{StandsForBoth, UnionStands, with_elem, told_after, Sends}
+use Rattle.pipes_flat.specs.Unions.{StandsForBoth, UnionStands, with_elem, beat_sent_after, Sends}
 
 -- the elements of a valid list are valid in intervals
-pub intervals : (p : Progress) (ms : List Message) → ValidFrom p ms → All (λ e. IsInterval e.span.start e.span.end) (elements ms)
+pub intervals : (p : Progress) (ms : List Message) → ValidFrom p ms
+    → All (λ e. IsInterval e.span.start e.span.end) (elements ms)
 intervals p [] v = All-nil (λ (e : Elem). IsInterval e.span.start e.span.end)
-intervals p (message.Elem e ∷ ms) v = All-cons (λ (e : Elem). IsInterval e.span.start e.span.end) e (elements ms) v.0.2 (intervals (after p (message.Elem e)) ms v.1)
+intervals p (message.Elem e ∷ ms) v = All-cons (λ (e : Elem). IsInterval e.span.start e.span.end) e
+    (elements ms) v.0.2 (intervals (after p (message.Elem e)) ms v.1)
 intervals p (message.Beat at ∷ ms) v = intervals (after p (message.Beat at)) ms v.1
 intervals p (message.End ∷ ms) v = intervals (after p message.End) ms v.1
 
-rise-head : (e : Elem) (es : List Elem) → StartsRise (e ∷ es) → All (λ d. e.span.start ≤ d.span.start) es
+rise-head : (e : Elem) (es : List Elem) → StartsRise (e ∷ es)
+    → All (λ d. e.span.start ≤ d.span.start) es
 rise-head e es h = λ k d l. h 0 (suc k) d (omega arith) (omega arith)
 
 rise-tail : (e : Elem) (es : List Elem) → StartsRise (e ∷ es) → StartsRise es
@@ -45,38 +56,72 @@ record Reaches (p : Progress) (now : ℕ) (ms : List Message) : Type 0 where
   pub low : p.beat ≤ (run p ms).beat
   pub high : (run p ms).beat ≤ now
 
-reach-due : (p : Progress) (now : ℕ) (es : List Elem) → p.ended ≡ false → p.beat ≤ now → StartsRise es → All (λ e. p.beat ≤ e.span.start) es → All (λ e. e.span.start ≤ now) es
+reach-due : (p : Progress) (now : ℕ) (es : List Elem) → p.ended ≡ false → p.beat ≤ now
+    → StartsRise es → All (λ e. p.beat ≤ e.span.start) es → All (λ e. e.span.start ≤ now) es
     → All (λ e. IsInterval e.span.start e.span.end) es → Reaches p now (map message.Elem es)
-reach-due p now [] going below rise low high inside = record { valid = tt; ended = going; low = omega arith; high = below }
+reach-due p now [] going below rise low high inside = record {
+  valid = tt;
+  ended = going;
+  low =
+      omega arith;
+  high = below;
+}
 reach-due p now (e ∷ es) going below rise low high inside =
     let start : p.beat ≤ e.span.start = All-head (λ (d : Elem). p.beat ≤ d.span.start) e es low in
     let here : e.span.start ≤ now = All-head (λ (d : Elem). d.span.start ≤ now) e es high in
-    let rest = reach-due (after p (message.Elem e)) now es going here (rise-tail e es rise) (rise-head e es rise) (All-tail (λ (d : Elem). d.span.start ≤ now) e es high)
+    let rest = reach-due (after p (message.Elem e)) now es going here (rise-tail e es rise)
+    (rise-head e es rise) (All-tail (λ (d : Elem). d.span.start ≤ now) e es high)
     (All-tail (λ (d : Elem). IsInterval d.span.start d.span.end) e es inside) in
     let a = rest.low in
     record {
-      valid = ((going, start, All-head (λ (d : Elem). IsInterval d.span.start d.span.end) e es inside), rest.valid);
+      valid = (
+        (
+          going,
+          start,
+          All-head (λ (d : Elem). IsInterval d.span.start d.span.end) e es
+              inside,
+        ),
+        rest.valid,
+      );
       ended = rest.ended;
       low = omega (arith, start, a);
       high = rest.high;
     }
 
--- what is told behind them
+-- what is known after them
 record Tells (q : Progress) (now : ℕ) (ended : Bool) (ms : List Message) : Type 0 where
   pub valid : ValidFrom q ms
   pub beat_is : (run q ms).beat ≡ now
   pub ended_is : (run q ms).ended ≡ ended
   pub nothing : elements ms ≡ []
 
-tells-beat : (b : Bool) (q : Progress) (told now : ℕ) → nat_lt told now ≡ b → q.ended ≡ false → told ≤ q.beat → q.beat ≤ now → now ≤ closed → Tells q now false (cond b (message.Beat now ∷ []) [])
-tells-beat true q told now is going low high most = record { valid = ((going, high, most), tt); beat_is = refl; ended_is = going; nothing = refl }
-tells-beat false q told now is going low high most =
-    let a : now ≤ told = ltb-false told now is in
+tells-beat : (b : Bool) (q : Progress) (beat_sent now : ℕ) → nat_lt beat_sent now ≡ b
+    → q.ended ≡ false
+    → beat_sent ≤ q.beat → q.beat ≤ now → now ≤ closed → Tells q now false
+    (cond b (message.Beat now ∷ []) [])
+tells-beat true q beat_sent now is going low high most = record {
+  valid = ((going, high, most), tt);
+  beat_is = refl;
+  ended_is = going;
+  nothing = refl;
+}
+tells-beat false q beat_sent now is going low high most =
+    let a : now ≤ beat_sent = ltb-false beat_sent now is in
     record { valid = tt; beat_is = omega (arith, a, low, high); ended_is = going; nothing = refl }
 
-tells : (ended : Bool) (q : Progress) (told now : ℕ) → (ended ≡ true → now ≡ closed) → q.ended ≡ false → told ≤ q.beat → q.beat ≤ now → now ≤ closed → Tells q now ended (told_after told now ended)
-tells true q told now at going low high most = record { valid = (going, tt); beat_is = sym (at refl); ended_is = refl; nothing = refl }
-tells false q told now at going low high most = tells-beat (nat_lt told now) q told now refl going low high most
+tells : (ended : Bool) (q : Progress) (beat_sent now : ℕ) → (ended ≡ true → now ≡ closed)
+    → q.ended ≡ false → beat_sent ≤ q.beat → q.beat ≤ now → now ≤ closed
+    → Tells q now ended (beat_sent_after beat_sent now ended)
+tells true q beat_sent now at going low high most = record {
+  valid = (going, tt);
+  beat_is =
+      sym (at refl);
+  ended_is = refl;
+  nothing = refl;
+}
+tells false q beat_sent now at going low high most = tells-beat (nat_lt beat_sent now) q beat_sent
+    now refl going
+    low high most
 
 -- the message's element is among those that wait
 with-Perm : (m : Message) (hold : List Elem) → Perm (with_elem m hold) (elements (m ∷ []) ++ hold)
@@ -84,13 +129,17 @@ with-Perm (message.Elem e) hold = placed-Perm e hold
 with-Perm (message.Beat at) hold = Perm-refl hold
 with-Perm message.End hold = Perm-refl hold
 
-arrived : (p : Progress) (m : Message) → CanFollow p m → All (λ e. p.beat ≤ e.span.start) (elements (m ∷ []))
-arrived p (message.Elem e) w = All-cons (λ (e : Elem). p.beat ≤ e.span.start) e [] w.1 (All-nil (λ (e : Elem). p.beat ≤ e.span.start))
+arrived : (p : Progress) (m : Message) → CanFollow p m → All (λ e. p.beat ≤ e.span.start)
+    (elements (m ∷ []))
+arrived p (message.Elem e) w = All-cons (λ (e : Elem). p.beat ≤ e.span.start) e [] w.1
+    (All-nil (λ (e : Elem). p.beat ≤ e.span.start))
 arrived p (message.Beat at) w = All-nil (λ (e : Elem). p.beat ≤ e.span.start)
 arrived p message.End w = All-nil (λ (e : Elem). p.beat ≤ e.span.start)
 
-arrived-fits : (m : Message) (kinds : List Kind) → MessageFits m kinds → All (λ e. Fits e.tuple kinds) (elements (m ∷ []))
-arrived-fits (message.Elem e) kinds f = All-cons (λ (e : Elem). Fits e.tuple kinds) e [] f (All-nil (λ (e : Elem). Fits e.tuple kinds))
+arrived-fits : (m : Message) (kinds : List Kind) → MessageFits m kinds
+    → All (λ e. Fits e.tuple kinds) (elements (m ∷ []))
+arrived-fits (message.Elem e) kinds f = All-cons (λ (e : Elem). Fits e.tuple kinds) e [] f
+    (All-nil (λ (e : Elem). Fits e.tuple kinds))
 arrived-fits (message.Beat at) kinds f = All-nil (λ (e : Elem). Fits e.tuple kinds)
 arrived-fits message.End kinds f = All-nil (λ (e : Elem). Fits e.tuple kinds)
 
@@ -100,7 +149,9 @@ not_ended p (message.Beat at) w = w.0
 not_ended p message.End w = w
 
 -- what was sent, what goes now and what stays
-moved : (sent hold gone stays more lefts rights : List Elem) → Perm (sent ++ hold) (lefts ++ rights) → Perm (gone ++ stays) (more ++ hold) → Perm ((sent ++ gone) ++ stays) ((lefts ++ more) ++ rights)
+moved : (sent hold gone stays more lefts rights : List Elem) → Perm (sent ++ hold) (lefts ++ rights)
+    → Perm (gone ++ stays) (more ++ hold) → Perm ((sent ++ gone) ++ stays) ((lefts ++ more)
+    ++ rights)
 moved sent hold gone stays more lefts rights p q =
     then (Perm-equal (append_assoc sent gone stays))
     (then (Perm-left sent q)
@@ -118,7 +169,9 @@ and-comm true false = refl
 and-comm false true = refl
 and-comm false false = refl
 
-turn : (kinds : List Kind) (hold : List Elem) (left right : Progress) (lefts rights sent : List Message) → StandsForBoth kinds hold left right lefts rights sent → StandsForBoth kinds hold right left rights lefts sent
+turn : (kinds : List Kind) (hold : List Elem) (left right : Progress)
+    (lefts rights sent : List Message) → StandsForBoth kinds hold left right lefts rights sent
+    → StandsForBoth kinds hold right left rights lefts sent
 turn kinds hold left right lefts rights sent s =
     record {
       left_valid = s.right_valid;
@@ -143,17 +196,26 @@ both-true true false h = cc
 both-true false b h = cc
 
 -- one more message on the left
-step : (kinds : List Kind) (hold held : List Elem) (left right moves : Progress) (lefts rights sent : List Message) (m : Message) (told now : ℕ) (ended : Bool)
-    → StandsForBoth kinds hold left right lefts rights sent → CanFollow (run start_of_list lefts) m → MessageFits m kinds → moves ≡ after left m → held ≡ with_elem m hold
-    → told ≡ min left.beat right.beat → now ≡ min moves.beat right.beat → ended ≡ (moves.ended && right.ended) → StartsRise (due now held)
-    → StandsForBoth kinds (later now held) moves right (lefts ++ m ∷ []) rights (sent ++ (map message.Elem (due now held) ++ told_after told now ended))
-step kinds hold held left right moves lefts rights sent m told now ended s w fits moves_is held_is told_is now_is ended_is rise =
+step : (kinds : List Kind) (hold held : List Elem) (left right moves : Progress)
+    (lefts rights sent : List Message) (m : Message) (beat_sent now : ℕ) (ended : Bool)
+    → StandsForBoth kinds hold left right lefts rights sent → CanFollow (run start_of_list lefts) m
+    → MessageFits m kinds → moves ≡ after left m → held ≡ with_elem m hold
+    → beat_sent ≡ min left.beat right.beat → now ≡ min moves.beat right.beat
+    → ended ≡ (moves.ended && right.ended) → StartsRise (due now held)
+    → StandsForBoth kinds (later now held) moves right (lefts ++ m ∷ []) rights
+    (sent ++ (map message.Elem (due now held) ++ beat_sent_after beat_sent now ended))
+step kinds hold held left right moves lefts rights sent m beat_sent now ended s w fits moves_is
+    held_is
+    beat_sent_is now_is ended_is rise =
     let gone : List Elem = due now held in
-    let tail : List Message = told_after told now ended in
-    let comes : Perm held (elements (m ∷ []) ++ hold) = subst (λ (es : List Elem). Perm es (elements (m ∷ []) ++ hold)) (sym held_is) (with-Perm m hold) in
+    let tail : List Message = beat_sent_after beat_sent now ended in
+    let comes : Perm held (elements (m ∷ []) ++ hold) = subst
+    (λ (es : List Elem). Perm es (elements (m ∷ []) ++ hold)) (sym held_is)
+    (with-Perm m hold) in
     let p : Progress = run start_of_list sent in
     let left_valid : Valid (lefts ++ m ∷ []) = valid-push start_of_list lefts m s.left_valid w in
-    let left_is : moves ≡ run start_of_list (lefts ++ m ∷ []) = moves_is ∙ ap (λ (q : Progress). after q m) s.left_is ∙ sym (run-push start_of_list lefts m) in
+    let left_is : moves ≡ run start_of_list (lefts ++ m ∷ []) = moves_is
+    ∙ ap (λ (q : Progress). after q m) s.left_is ∙ sym (run-push start_of_list lefts m) in
     let left_beat : moves.beat ≡ beat (lefts ++ m ∷ []) = ap (λ (q : Progress). q.beat) left_is in
     let right_beat : right.beat ≡ beat rights = ap (λ (q : Progress). q.beat) s.right_is in
     let left_most : beat (lefts ++ m ∷ []) ≤ closed = beat-closed (lefts ++ m ∷ []) left_valid in
@@ -162,110 +224,167 @@ step kinds hold held left right moves lefts rights sent m told now ended s w fit
     let old_beat : beat sent ≡ min left.beat right.beat = s.sent_beat in
     let old_left : left.beat ≡ beat lefts = ap (λ (q : Progress). q.beat) s.left_is in
     let old_most : beat lefts ≤ closed = beat-closed lefts s.left_valid in
-    let rose : (left.beat ≤ (run left (m ∷ [])).beat) × ((run left (m ∷ [])).beat ≤ closed) = run-rises left (m ∷ []) (follows, tt) (omega arith) in
+    let rose : (left.beat ≤ (run left (m ∷ [])).beat) × ((run left (m ∷ [])).beat ≤ closed) =
+    run-rises left (m ∷ []) (follows, tt) (omega arith) in
     let rose_is : moves.beat ≡ (run left (m ∷ [])).beat = ap (λ (q : Progress). q.beat) moves_is in
-    let going : p.ended ≡ false = s.sent_ended ∙ both-false left.ended right.ended (not_ended left m follows) in
+    let going : p.ended ≡ false = s.sent_ended ∙ both-false left.ended right.ended
+    (not_ended left m follows) in
     let low : All (λ e. p.beat ≤ e.span.start) held =
     All-Perm (λ (e : Elem). p.beat ≤ e.span.start) (Perm-sym comes)
     (All-append (λ (e : Elem). p.beat ≤ e.span.start) (elements (m ∷ [])) hold
-    (All-weaker (λ (e : Elem). left.beat ≤ e.span.start) (λ (e : Elem). p.beat ≤ e.span.start) (λ e h. omega (arith, old_beat, h)) (elements (m ∷ [])) (arrived left m follows))
-    (All-weaker (λ (e : Elem). p.beat < e.span.start) (λ (e : Elem). p.beat ≤ e.span.start) (λ e h. omega (arith, h)) hold s.waits)) in
+    (All-weaker (λ (e : Elem). left.beat ≤ e.span.start) (λ (e : Elem). p.beat ≤ e.span.start)
+    (λ e h. omega (arith, old_beat, h)) (elements (m ∷ [])) (arrived left m follows))
+    (All-weaker (λ (e : Elem). p.beat < e.span.start) (λ (e : Elem). p.beat ≤ e.span.start)
+    (λ e h. omega (arith, h)) hold s.waits)) in
     let taken : Perm (elements sent ++ hold) (elements lefts ++ elements rights) = s.all in
     let kept : All (λ e. IsInterval e.span.start e.span.end) hold =
     (All-parts (λ (e : Elem). IsInterval e.span.start e.span.end) (elements sent) hold
     (All-Perm (λ (e : Elem). IsInterval e.span.start e.span.end) (Perm-sym taken)
-    (All-append (λ (e : Elem). IsInterval e.span.start e.span.end) (elements lefts) (elements rights) (intervals start_of_list lefts s.left_valid) (intervals start_of_list rights s.right_valid)))).1 in
+    (All-append (λ (e : Elem). IsInterval e.span.start e.span.end) (elements lefts)
+    (elements rights) (intervals start_of_list lefts s.left_valid)
+    (intervals start_of_list rights s.right_valid)))).1 in
     let inside : All (λ e. IsInterval e.span.start e.span.end) held =
     All-Perm (λ (e : Elem). IsInterval e.span.start e.span.end) (Perm-sym comes)
-    (All-append (λ (e : Elem). IsInterval e.span.start e.span.end) (elements (m ∷ [])) hold (intervals left (m ∷ []) (follows, tt)) kept) in
+    (All-append (λ (e : Elem). IsInterval e.span.start e.span.end) (elements (m ∷ [])) hold
+    (intervals left (m ∷ []) (follows, tt)) kept) in
     let split : Perm (gone ++ later now held) held = due-later now held in
     let reach : Reaches p now (map message.Elem gone) =
     reach-due p now gone going (omega (arith, old_beat, rose.0)) rise
-    (All-parts (λ (e : Elem). p.beat ≤ e.span.start) gone (later now held) (All-Perm (λ (e : Elem). p.beat ≤ e.span.start) (Perm-sym split) low)).0
+    (All-parts (λ (e : Elem). p.beat ≤ e.span.start) gone (later now held)
+    (All-Perm (λ (e : Elem). p.beat ≤ e.span.start) (Perm-sym split) low)).0
     (due-below now held)
-    (All-parts (λ (e : Elem). IsInterval e.span.start e.span.end) gone (later now held) (All-Perm (λ (e : Elem). IsInterval e.span.start e.span.end) (Perm-sym split) inside)).0 in
+    (All-parts (λ (e : Elem). IsInterval e.span.start e.span.end) gone (later now held)
+    (All-Perm (λ (e : Elem). IsInterval e.span.start e.span.end) (Perm-sym split) inside)).0 in
     let q : Progress = run p (map message.Elem gone) in
     let q_low : p.beat ≤ q.beat = reach.low in
     let tells_it : Tells q now ended tail =
-    tells ended q told now
+    tells ended q beat_sent now
     (λ h.
     let both = both-true moves.ended right.ended (sym ended_is ∙ h) in
-    let a : beat (lefts ++ m ∷ []) ≡ closed = beat-ended (lefts ++ m ∷ []) left_valid (sym (ap (λ (x : Progress). x.ended) left_is) ∙ both.0) in
-    let b : beat rights ≡ closed = beat-ended rights s.right_valid (sym (ap (λ (x : Progress). x.ended) s.right_is) ∙ both.1) in
+    let a : beat (lefts ++ m ∷ []) ≡ closed = beat-ended (lefts ++ m ∷ []) left_valid
+    (sym (ap (λ (x : Progress). x.ended) left_is) ∙ both.0) in
+    let b : beat rights ≡ closed = beat-ended rights s.right_valid
+    (sym (ap (λ (x : Progress). x.ended) s.right_is) ∙ both.1) in
     omega arith)
     reach.ended (omega (arith, old_beat, q_low)) reach.high (omega arith) in
-    let ran : run start_of_list (sent ++ (map message.Elem gone ++ tail)) ≡ run q tail = run-append start_of_list sent (map message.Elem gone ++ tail) ∙ run-append p (map message.Elem gone) tail in
-    let now_beat : beat (sent ++ (map message.Elem gone ++ tail)) ≡ now = ap (λ (x : Progress). x.beat) ran ∙ tells_it.beat_is in
+    let ran : run start_of_list (sent ++ (map message.Elem gone ++ tail)) ≡ run q tail =
+    run-append start_of_list sent (map message.Elem gone ++ tail)
+    ∙ run-append p (map message.Elem gone) tail in
+    let now_beat : beat (sent ++ (map message.Elem gone ++ tail)) ≡ now =
+    ap (λ (x : Progress). x.beat) ran ∙ tells_it.beat_is in
     let now_elements : elements (sent ++ (map message.Elem gone ++ tail)) ≡ elements sent ++ gone =
     elements-append sent (map message.Elem gone ++ tail)
-    ∙ ap (λ (es : List Elem). elements sent ++ es) (elements-append (map message.Elem gone) tail ∙ ap (λ (es : List Elem). elements (map message.Elem gone) ++ es) tells_it.nothing ∙ append-nil (elements (map message.Elem gone)) ∙ elements-map gone) in
+    ∙ ap (λ (es : List Elem). elements sent ++ es) (elements-append (map message.Elem gone) tail
+    ∙ ap (λ (es : List Elem). elements (map message.Elem gone) ++ es) tells_it.nothing
+    ∙ append-nil (elements (map message.Elem gone)) ∙ elements-map gone) in
     record {
       left_valid = left_valid;
       right_valid = s.right_valid;
-      left_fits = subst (λ (es : List Elem). All (λ e. Fits e.tuple kinds) es) (sym (elements-append lefts (m ∷ []))) (All-append (λ (e : Elem). Fits e.tuple kinds) (elements lefts) (elements (m ∷ [])) s.left_fits (arrived-fits m kinds fits));
+      left_fits = subst (λ (es : List Elem). All (λ e. Fits e.tuple kinds) es)
+          (sym (elements-append lefts (m ∷ []))) (All-append (λ (e : Elem). Fits e.tuple kinds)
+          (elements lefts) (elements (m ∷ [])) s.left_fits (arrived-fits m kinds fits));
       right_fits = s.right_fits;
       left_is = left_is;
       right_is = s.right_is;
-      sent_valid = valid-append start_of_list sent (map message.Elem gone ++ tail) s.sent_valid (valid-append p (map message.Elem gone) tail reach.valid tells_it.valid);
+      sent_valid = valid-append start_of_list sent (map message.Elem gone ++ tail) s.sent_valid
+          (valid-append p (map message.Elem gone) tail reach.valid tells_it.valid);
       sent_beat = now_beat ∙ now_is;
       sent_ended = ap (λ (x : Progress). x.ended) ran ∙ tells_it.ended_is ∙ ended_is;
-      waits = All-weaker (λ (e : Elem). now < e.span.start) (λ (e : Elem). beat (sent ++ (map message.Elem gone ++ tail)) < e.span.start) (λ e h. omega (arith, now_beat, h)) (later now held) (later-above now held);
+      waits = All-weaker (λ (e : Elem). now < e.span.start) (λ (e : Elem). beat
+          (sent ++ (map message.Elem gone ++ tail)) < e.span.start)
+          (λ e h. omega (arith, now_beat, h)) (later now held) (later-above now held);
       all =
-          subst (λ (es : List Elem). Perm (es ++ later now held) (elements (lefts ++ m ∷ []) ++ elements rights)) (sym now_elements)
-          (subst (λ (es : List Elem). Perm ((elements sent ++ gone) ++ later now held) (es ++ elements rights)) (sym (elements-append lefts (m ∷ [])))
-          (moved (elements sent) hold gone (later now held) (elements (m ∷ [])) (elements lefts) (elements rights) taken (then split comes)));
+          subst (λ (es : List Elem). Perm (es ++ later now held) (elements (lefts ++ m ∷ [])
+          ++ elements rights)) (sym now_elements)
+          (subst (λ (es : List Elem). Perm ((elements sent ++ gone) ++ later now held)
+          (es ++ elements rights)) (sym (elements-append lefts (m ∷ [])))
+          (moved (elements sent) hold gone (later now held) (elements (m ∷ [])) (elements lefts)
+          (elements rights) taken (then split comes)));
     }
 
-carry : (kinds kinds' : List Kind) (hold hold' : List Elem) (left left' right right' : Progress) (lefts rights sent : List Message)
-    → kinds' ≡ kinds → hold' ≡ hold → left' ≡ left → right' ≡ right → StandsForBoth kinds hold left right lefts rights sent → StandsForBoth kinds' hold' left' right' lefts rights sent
-carry kinds kinds' hold hold' left left' right right' lefts rights sent a b c d s = rw (a, b, c, d) s
+carry : (kinds kinds' : List Kind) (hold hold' : List Elem) (left left' right right' : Progress)
+    (lefts rights sent : List Message)
+    → kinds' ≡ kinds → hold' ≡ hold → left' ≡ left → right' ≡ right
+    → StandsForBoth kinds hold left right lefts rights sent
+    → StandsForBoth kinds' hold' left' right' lefts rights sent
+carry kinds kinds' hold hold' left left' right right' lefts rights sent a b c d s =
+    rw (a, b, c, d) s
 
 -- the steps of the code, on either port
-pub takes_left : (old mid new : Union) (m : Message) (told : ℕ) (before now : List Message) → told ≡ min old.left.beat old.right.beat → mid.schema ≡ old.schema → mid.failed ≡ old.failed → (CanFollow old.left m → mid.left ≡ after old.left m) → mid.right ≡ old.right
-    → mid.hold ≡ with_elem m old.hold → Sends mid new told before now → Takes (union_task old.schema) (UnionStands old) (UnionStands new) 0 m before now
-takes_left old mid new m told before now told_is schema failed left right hold sends =
+pub takes_left : (old mid new : Union) (m : Message) (beat_sent : ℕ) (before now : List Message)
+    → beat_sent ≡ min old.left.beat old.right.beat → mid.schema ≡ old.schema
+    → mid.failed ≡ old.failed
+    → (CanFollow old.left m → mid.left ≡ after old.left m) → mid.right ≡ old.right
+    → mid.hold ≡ with_elem m old.hold → Sends mid new beat_sent before now
+    → Takes (union_task old.schema) (UnionStands old) (UnionStands new) 0 m before now
+takes_left old mid new m beat_sent before now beat_sent_is schema failed left right hold sends =
     record {
-      sent = map message.Elem (due (min mid.left.beat mid.right.beat) mid.hold) ++ told_after told (min mid.left.beat mid.right.beat) (mid.left.ended && mid.right.ended);
+      sent = map message.Elem (due (min mid.left.beat mid.right.beat) mid.hold)
+          ++ beat_sent_after beat_sent (min mid.left.beat mid.right.beat)
+          (mid.left.ended && mid.right.ended);
       appended = sends.appended;
       stands = λ taken earlier s can.
-          let follows : CanFollow old.left m = subst (λ (p : Progress). CanFollow p m) (sym s.both.left_is) can.follows in
+          let follows : CanFollow old.left m = subst (λ (p : Progress). CanFollow p m)
+          (sym s.both.left_is) can.follows in
           let both =
-          step old.schema old.hold mid.hold old.left old.right mid.left (taken 0) (taken 1) earlier m told (min mid.left.beat mid.right.beat) (mid.left.ended && mid.right.ended)
-          s.both can.follows can.fits (left follows) hold told_is (ap (λ (p : Progress). min mid.left.beat p.beat) right) (ap (λ (p : Progress). mid.left.ended && p.ended) right) sends.rises in
+          step old.schema old.hold mid.hold old.left old.right mid.left (taken 0) (taken 1) earlier
+          m beat_sent (min mid.left.beat mid.right.beat) (mid.left.ended && mid.right.ended)
+          s.both can.follows can.fits (left follows) hold beat_sent_is
+          (ap (λ (p : Progress). min mid.left.beat p.beat) right)
+          (ap (λ (p : Progress). mid.left.ended && p.ended) right) sends.rises in
           record {
             going = sends.failed ∙ failed ∙ s.going;
-            both = carry old.schema new.schema (later (min mid.left.beat mid.right.beat) mid.hold) new.hold mid.left new.left old.right new.right _ _ _ (sends.schema ∙ schema) sends.hold sends.left (sends.right ∙ right) both;
+            both = carry old.schema new.schema (later (min mid.left.beat mid.right.beat) mid.hold)
+                new.hold mid.left new.left old.right new.right _ _ _ (sends.schema ∙ schema)
+                sends.hold sends.left (sends.right ∙ right) both;
           };
     }
 
 min-turn : (a b : ℕ) → min a b ≡ min b a
 min-turn a b = omega arith
 
-pub takes_right : (old mid new : Union) (m : Message) (told : ℕ) (before now : List Message) → told ≡ min old.left.beat old.right.beat → mid.schema ≡ old.schema → mid.failed ≡ old.failed → (CanFollow old.right m → mid.right ≡ after old.right m) → mid.left ≡ old.left
-    → mid.hold ≡ with_elem m old.hold → Sends mid new told before now → Takes (union_task old.schema) (UnionStands old) (UnionStands new) 1 m before now
-takes_right old mid new m told before now told_is schema failed right left hold sends =
+pub takes_right : (old mid new : Union) (m : Message) (beat_sent : ℕ) (before now : List Message)
+    → beat_sent ≡ min old.left.beat old.right.beat → mid.schema ≡ old.schema
+    → mid.failed ≡ old.failed
+    → (CanFollow old.right m → mid.right ≡ after old.right m) → mid.left ≡ old.left
+    → mid.hold ≡ with_elem m old.hold → Sends mid new beat_sent before now
+    → Takes (union_task old.schema) (UnionStands old) (UnionStands new) 1 m before now
+takes_right old mid new m beat_sent before now beat_sent_is schema failed right left hold sends =
     record {
-      sent = map message.Elem (due (min mid.left.beat mid.right.beat) mid.hold) ++ told_after told (min mid.left.beat mid.right.beat) (mid.left.ended && mid.right.ended);
+      sent = map message.Elem (due (min mid.left.beat mid.right.beat) mid.hold)
+          ++ beat_sent_after beat_sent (min mid.left.beat mid.right.beat)
+          (mid.left.ended && mid.right.ended);
       appended = sends.appended;
       stands = λ taken earlier s can.
-          let follows : CanFollow old.right m = subst (λ (p : Progress). CanFollow p m) (sym s.both.right_is) can.follows in
-          let turned = turn old.schema old.hold old.left old.right (taken 0) (taken 1) earlier s.both in
+          let follows : CanFollow old.right m = subst (λ (p : Progress). CanFollow p m)
+          (sym s.both.right_is) can.follows in
+          let turned = turn old.schema old.hold old.left old.right (taken 0) (taken 1) earlier
+          s.both in
           let both =
-          step old.schema old.hold mid.hold old.right old.left mid.right (taken 1) (taken 0) earlier m told (min mid.left.beat mid.right.beat) (mid.left.ended && mid.right.ended)
-          turned can.follows can.fits (right follows) hold (told_is ∙ min-turn old.left.beat old.right.beat)
-          (ap (λ (p : Progress). min p.beat mid.right.beat) left ∙ min-turn old.left.beat mid.right.beat)
-          (ap (λ (p : Progress). p.ended && mid.right.ended) left ∙ and-comm old.left.ended mid.right.ended) sends.rises in
+          step old.schema old.hold mid.hold old.right old.left mid.right (taken 1) (taken 0) earlier
+          m beat_sent (min mid.left.beat mid.right.beat) (mid.left.ended && mid.right.ended)
+          turned can.follows can.fits (right follows) hold (beat_sent_is
+          ∙ min-turn old.left.beat old.right.beat)
+          (ap (λ (p : Progress). min p.beat mid.right.beat) left
+          ∙ min-turn old.left.beat mid.right.beat)
+          (ap (λ (p : Progress). p.ended && mid.right.ended) left
+          ∙ and-comm old.left.ended mid.right.ended) sends.rises in
           record {
             going = sends.failed ∙ failed ∙ s.going;
-            both = carry old.schema new.schema (later (min mid.left.beat mid.right.beat) mid.hold) new.hold old.left new.left mid.right new.right _ _ _ (sends.schema ∙ schema) sends.hold (sends.left ∙ left) sends.right
-                (turn old.schema (later (min mid.left.beat mid.right.beat) mid.hold) mid.right old.left _ _ _ both);
+            both = carry old.schema new.schema (later (min mid.left.beat mid.right.beat) mid.hold)
+                new.hold old.left new.left mid.right new.right _ _ _ (sends.schema ∙ schema)
+                sends.hold (sends.left ∙ left) sends.right
+                (turn old.schema (later (min mid.left.beat mid.right.beat) mid.hold) mid.right
+                old.left _ _ _ both);
           };
     }
 
-all-both : (es : List Elem) (low h : ℕ) → low ≡ h → All (λ e. low < e.span.start) es → All (λ e. IsInterval e.span.start e.span.end) es → All (λ e. h < e.span.end) es
+all-both : (es : List Elem) (low h : ℕ) → low ≡ h → All (λ e. low < e.span.start) es
+    → All (λ e. IsInterval e.span.start e.span.end) es → All (λ e. h < e.span.end) es
 all-both es low h same a b = λ k d l. let x = a k d l in let y = (b k d l).0 in omega arith
 
-none-late : (es : List Elem) (low : ℕ) → low ≡ closed → All (λ e. low < e.span.start) es → All (λ e. IsInterval e.span.start e.span.end) es → length es ≡ 0
+none-late : (es : List Elem) (low : ℕ) → low ≡ closed → All (λ e. low < e.span.start) es
+    → All (λ e. IsInterval e.span.start e.span.end) es → length es ≡ 0
 none-late [] low is a b = refl
 none-late (e ∷ es) low is a b =
     let x : low < e.span.start = a 0 e (omega arith) in
@@ -274,7 +393,8 @@ none-late (e ∷ es) low is a b =
     absurd (omega arith)
 
 -- the law
-pub union_lawful : (u : Union) (taken : Lists) (sent : List Message) → UnionStands u taken sent → Lawful (union_task u.schema) taken sent (length u.hold)
+pub union_lawful : (u : Union) (taken : Lists) (sent : List Message) → UnionStands u taken sent
+    → Lawful (union_task u.schema) taken sent (length u.hold)
 union_lawful u taken sent stands =
     let s = stands.both in
     let lefts : List Elem = elements (taken 0) in
@@ -286,27 +406,44 @@ union_lawful u taken sent stands =
     let sent_beat : beat sent ≡ min u.left.beat u.right.beat = s.sent_beat in
     let prompt : beat sent ≡ least 2 taken = omega arith in
     let fits : All (λ e. Fits e.tuple u.schema) (elements sent ++ u.hold) =
-    All-Perm (λ (e : Elem). Fits e.tuple u.schema) (Perm-sym s.all) (All-append (λ (e : Elem). Fits e.tuple u.schema) lefts rights s.left_fits s.right_fits) in
+    All-Perm (λ (e : Elem). Fits e.tuple u.schema) (Perm-sym s.all)
+    (All-append (λ (e : Elem). Fits e.tuple u.schema) lefts rights s.left_fits s.right_fits) in
     let inside : All (λ e. IsInterval e.span.start e.span.end) (elements sent ++ u.hold) =
     All-Perm (λ (e : Elem). IsInterval e.span.start e.span.end) (Perm-sym s.all)
-    (All-append (λ (e : Elem). IsInterval e.span.start e.span.end) lefts rights (intervals start_of_list (taken 0) s.left_valid) (intervals start_of_list (taken 1) s.right_valid)) in
-    let held : All (λ e. IsInterval e.span.start e.span.end) u.hold = (All-parts (λ (e : Elem). IsInterval e.span.start e.span.end) (elements sent) u.hold inside).1 in
+    (All-append (λ (e : Elem). IsInterval e.span.start e.span.end) lefts rights
+    (intervals start_of_list (taken 0) s.left_valid) (intervals start_of_list
+    (taken 1) s.right_valid)) in
+    let held : All (λ e. IsInterval e.span.start e.span.end) u.hold =
+    (All-parts (λ (e : Elem). IsInterval e.span.start e.span.end) (elements sent) u.hold
+    inside).1 in
     let waits : All (λ e. beat sent < e.span.start) u.hold = s.waits in
-    let past : All (λ e. least 2 taken < e.span.end) u.hold = all-both u.hold (beat sent) (least 2 taken) prompt waits held in
-    let counted : open_count (least 2 taken) (elements sent ++ u.hold) ≡ open_count (least 2 taken) (lefts ++ rights) = count_by-Perm (λ (e : Elem). nat_lt (least 2 taken) e.span.end) s.all in
-    let parts : open_count (least 2 taken) (elements sent ++ u.hold) ≡ open_count (least 2 taken) (elements sent) + open_count (least 2 taken) u.hold = open_count-append (least 2 taken) (elements sent) u.hold in
-    let all_open : open_count (least 2 taken) u.hold ≡ length u.hold = open_count-all (least 2 taken) u.hold past in
+    let past : All (λ e. least 2 taken < e.span.end) u.hold =
+    all-both u.hold (beat sent) (least 2 taken) prompt waits held in
+    let counted : open_count (least 2 taken) (elements sent ++ u.hold) ≡ open_count (least 2 taken)
+    (lefts ++ rights) = count_by-Perm (λ (e : Elem). nat_lt (least 2 taken) e.span.end)
+    s.all in
+    let parts : open_count (least 2 taken) (elements sent ++ u.hold) ≡ open_count (least 2 taken)
+    (elements sent) + open_count (least 2 taken) u.hold = open_count-append (least 2 taken)
+    (elements sent) u.hold in
+    let all_open : open_count (least 2 taken) u.hold ≡ length u.hold =
+    open_count-all (least 2 taken) u.hold past in
     record {
       valid = s.sent_valid;
       fits = (All-parts (λ (e : Elem). Fits e.tuple u.schema) (elements sent) u.hold fits).0;
       answer = λ t below.
-          let late : All (λ e. t < e.span.start) u.hold = All-weaker (λ (e : Elem). beat sent < e.span.start) (λ (e : Elem). t < e.span.start) (λ e h. omega (arith, below, h)) u.hold waits in
+          let late : All (λ e. t < e.span.start) u.hold = All-weaker
+          (λ (e : Elem). beat sent < e.span.start) (λ (e : Elem). t < e.span.start)
+          (λ e h. omega (arith, below, h)) u.hold waits in
           let empty : snapshot u.hold t ≡ [] = snapshot-above t u.hold late in
           let here : snapshot (elements sent ++ u.hold) t ≡ snapshot (elements sent) t =
-          snapshot-append (elements sent) u.hold t ∙ ap (λ (rows : List (List Value)). snapshot (elements sent) t ++ rows) empty ∙ append-nil (snapshot (elements sent) t) in
-          SameBag-Perm (then (Perm-equal (sym here)) (then (snapshot-Perm t s.all) (Perm-equal (snapshot-append lefts rights t))));
+          snapshot-append (elements sent) u.hold t
+          ∙ ap (λ (rows : List (List Value)). snapshot (elements sent) t ++ rows) empty
+          ∙ append-nil (snapshot (elements sent) t) in
+          SameBag-Perm (then (Perm-equal (sym here)) (then (snapshot-Perm t s.all)
+          (Perm-equal (snapshot-append lefts rights t))));
       below = omega arith;
-      above = let h = floor-below (least 2 taken) (all_elements 2 taken) in omega (arith, prompt, h);
+      above = let h = floor-below (least 2 taken) (all_elements 2 taken) in omega
+          (arith, prompt, h);
       prompt = λ lags. prompt;
       ends = λ h.
           let a : HasEnded (taken 0) = h 0 (omega arith) in
@@ -318,10 +455,13 @@ union_lawful u taken sent stands =
           (s.sent_ended ∙ rw (le, re) refl, none-late u.hold (beat sent) (omega arith) waits held);
       few = omega (arith, counted, parts, all_open);
       spans =
-          (All-parts (IsCovered (lefts ++ rights)) (elements sent) u.hold (All-Perm (IsCovered (lefts ++ rights)) (Perm-sym s.all) (covered-itself (lefts ++ rights)))).0;
+          (All-parts (IsCovered (lefts ++ rights)) (elements sent) u.hold
+          (All-Perm (IsCovered (lefts ++ rights)) (Perm-sym s.all)
+          (covered-itself (lefts ++ rights)))).0;
     }
 
-pub union_beat : (u : Union) (taken : Lists) (sent : List Message) → UnionStands u taken sent → min u.left.beat u.right.beat ≡ beat sent
+pub union_beat : (u : Union) (taken : Lists) (sent : List Message) → UnionStands u taken sent
+    → min u.left.beat u.right.beat ≡ beat sent
 union_beat u taken sent s = sym s.both.sent_beat
 
 -- before any message
@@ -341,23 +481,35 @@ start-both kinds =
       all = Perm-refl [];
     }
 
-pub union_new : (u : Union) → u.failed ≡ false → u.left ≡ start_of_list → u.right ≡ start_of_list → u.hold ≡ [] → UnionStands u no_messages []
+pub union_new : (u : Union) → u.failed ≡ false → u.left ≡ start_of_list → u.right ≡ start_of_list
+    → u.hold ≡ [] → UnionStands u no_messages []
 union_new u going left right hold =
     record {
       going = going;
-      both = carry u.schema u.schema [] u.hold start_of_list u.left start_of_list u.right [] [] [] refl hold left right (start-both u.schema);
+      both = carry u.schema u.schema [] u.hold start_of_list u.left start_of_list u.right [] [] []
+          refl hold left right (start-both u.schema);
     }
 
 -- what the code does one after the other
-pub sends_from : (old new : Union) (told now : ℕ) (ended : Bool) (before middle behind : List Message) (empty ready : List Elem) → new.schema ≡ old.schema → new.failed ≡ old.failed → new.left ≡ old.left → new.right ≡ old.right
-    → now ≡ min old.left.beat old.right.beat → ended ≡ (old.left.ended && old.right.ended) → empty ≡ [] → StartsRise (due now old.hold) → ready ≡ empty ++ due now old.hold → new.hold ≡ later now old.hold
-    → middle ≡ before ++ map message.Elem ready → behind ≡ middle ++ told_after told now ended → Sends old new told before behind
-sends_from old new told now ended before middle behind empty ready schema failed left right now_is ended_is empty_is rise ready_is hold middle_is behind_is =
+pub sends_from : (old new : Union) (beat_sent now : ℕ) (ended : Bool)
+    (before middle after_it : List Message) (empty ready : List Elem) → new.schema ≡ old.schema
+    → new.failed ≡ old.failed → new.left ≡ old.left → new.right ≡ old.right
+    → now ≡ min old.left.beat old.right.beat → ended ≡ (old.left.ended && old.right.ended)
+    → empty ≡ [] → StartsRise (due now old.hold) → ready ≡ empty ++ due now old.hold
+    → new.hold ≡ later now old.hold
+    → middle ≡ before ++ map message.Elem ready → after_it ≡ middle
+    ++ beat_sent_after beat_sent now ended
+    → Sends old new beat_sent before after_it
+sends_from old new beat_sent now ended before middle after_it empty ready schema failed left right
+    now_is
+    ended_is empty_is rise ready_is hold middle_is after_is =
     let gone : List Elem = due now old.hold in
-    let all : behind ≡ before ++ (map message.Elem gone ++ told_after told now ended) =
-    behind_is
-    ∙ ap (λ (ms : List Message). ms ++ told_after told now ended) (middle_is ∙ ap (λ (es : List Elem). before ++ map message.Elem es) (ready_is ∙ ap (λ (es : List Elem). es ++ gone) empty_is))
-    ∙ append_assoc before (map message.Elem gone) (told_after told now ended) in
+    let all : after_it ≡ before ++ (map message.Elem gone ++ beat_sent_after beat_sent now ended) =
+    after_is
+    ∙ ap (λ (ms : List Message). ms ++ beat_sent_after beat_sent now ended)
+    (middle_is ∙ ap (λ (es : List Elem). before ++ map message.Elem es)
+    (ready_is ∙ ap (λ (es : List Elem). es ++ gone) empty_is))
+    ∙ append_assoc before (map message.Elem gone) (beat_sent_after beat_sent now ended) in
     record {
       schema = schema;
       failed = failed;
@@ -366,6 +518,9 @@ sends_from old new told now ended before middle behind empty ready schema failed
       hold = subst (λ (t : ℕ). new.hold ≡ later t old.hold) now_is hold;
       rises = subst (λ (t : ℕ). StartsRise (due t old.hold)) now_is rise;
       appended =
-          subst (λ (t : ℕ). behind ≡ before ++ (map message.Elem (due t old.hold) ++ told_after told t (old.left.ended && old.right.ended))) now_is
-          (subst (λ (b : Bool). behind ≡ before ++ (map message.Elem gone ++ told_after told now b)) ended_is all);
+          subst (λ (t : ℕ). after_it ≡ before ++ (map message.Elem (due t old.hold)
+          ++ beat_sent_after beat_sent t (old.left.ended && old.right.ended))) now_is
+          (subst (λ (b : Bool). after_it ≡ before ++ (map message.Elem gone
+          ++ beat_sent_after beat_sent now b))
+          ended_is all);
     }

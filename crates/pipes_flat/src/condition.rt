@@ -2,8 +2,8 @@
 ghost use Rattle.std.specs.Prelude.{◌≡◌, Some};
 ghost use Rattle.pipes_tuple.specs.declared.value.Kind.{Kind};
 ghost use Rattle.pipes_tuple.specs.Kinds.{Fits};
-ghost use Rattle.pipes_plan.specs.ExprValue.{passes};
-ghost use Rattle.pipes_plan.specs.ExprKind.{expr_kind};
+ghost use Rattle.pipes_expr.specs.ExprValue.{passes};
+ghost use Rattle.pipes_expr.specs.ExprKind.{expr_kind};
 
 use pipes_plan::Expr;
 use pipes_tuple::{Schema, Tuple};
@@ -19,9 +19,9 @@ pub(crate) struct Condition {
 impl Model for Condition {
     ghost use Rattle.std.specs.Prelude.{◌≡◌, Some};
     ghost use Rattle.pipes_tuple.specs.declared.value.Kind.TheVariants as kinds;
-    ghost use Rattle.pipes_plan.specs.ExprKind.{expr_kind};
+    ghost use Rattle.pipes_expr.specs.ExprKind.{expr_kind};
     ghost use Rattle.std.specs.Coded.{codes};
-    ghost use Rattle.pipes_plan.specs.contracts.expr.Expr as coding;
+    ghost use Rattle.pipes_expr.specs.contracts.expr.Expr as coding;
     ghost use Rattle.pipes_flat.specs.Typed.{ConditionOver};
 
     ghost Value = { ConditionOver };

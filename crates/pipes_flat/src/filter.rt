@@ -29,7 +29,8 @@ impl Filter {
     pub fn new(condition: Expr, schema: Schema) -> Result<Filter, Memory>
         requires { IsTyped (plan.Filter condition (plan.Source 0)) (schema ∷ []) }
         ensures made { IsOk result }
-        ensures task { IfOk result (λ f. ⟦<Filter as Operator>⟧.task f ≡ filter_task condition schema) }
+        ensures task { IfOk result (λ f. ⟦<Filter as Operator>⟧.task f ≡ filter_task condition
+            schema) }
         ensures stands { IfOk result (λ f. ⟦<Filter as Operator>⟧.stands f no_messages []) }
     {
         let condition = Condition::new(condition, schema);
@@ -41,9 +42,11 @@ impl Filter {
         })
     }
 
-    /// What was sent is, element by element, in order and with the same intervals, what was taken and passes: a law, and nothing to run.
+    /// What was sent is, element by element, in order and with the same intervals, what was taken
+    /// and passes: a law, and nothing to run.
     pub fn sends_one_by_one(&self)
-        ensures { (taken : Lists) (sent : List Sent) → ⟦<Filter as Operator>⟧.stands self.now taken sent → SendsOneByOne (⟦<Filter as Operator>⟧.task self.now) taken sent }
+        ensures { (taken : Lists) (sent : List Sent) → ⟦<Filter as Operator>⟧.stands self.now taken
+            sent → SendsOneByOne (⟦<Filter as Operator>⟧.task self.now) taken sent }
     {}
 }
 

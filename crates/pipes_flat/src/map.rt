@@ -42,9 +42,11 @@ impl Map {
         })
     }
 
-    /// What was sent is, element by element, in order and with the same intervals, what was taken, with its row replaced: a law, and nothing to run.
+    /// What was sent is, element by element, in order and with the same intervals, what was taken,
+    /// with its row replaced: a law, and nothing to run.
     pub fn sends_one_by_one(&self)
-        ensures { (taken : Lists) (sent : List Sent) → ⟦<Map as Operator>⟧.stands self.now taken sent → SendsOneByOne (⟦<Map as Operator>⟧.task self.now) taken sent }
+        ensures { (taken : Lists) (sent : List Sent) → ⟦<Map as Operator>⟧.stands self.now taken
+            sent → SendsOneByOne (⟦<Map as Operator>⟧.task self.now) taken sent }
     {}
 }
 

@@ -2,9 +2,9 @@
 ghost use Rattle.std.specs.Prelude.{◌≡◌, IfOk, Some, length, map};
 ghost use Rattle.std.specs.List.{All};
 ghost use Rattle.pipes_tuple.specs.Kinds.{Fits, kind_of};
-ghost use Rattle.pipes_plan.specs.Algebra.{values_of};
-ghost use Rattle.pipes_plan.specs.ExprKind.{IsTypedExpr};
-ghost use Rattle.pipes_plan.specs.PlanKinds.{IsWidth};
+ghost use Rattle.pipes_relation.specs.Relations.{values_of};
+ghost use Rattle.pipes_expr.specs.ExprKind.{IsTypedExpr};
+ghost use Rattle.pipes_relation.specs.Relations.{IsWidth};
 
 use pipes_plan::{Expr, Exprs};
 use pipes_time::Memory;
@@ -23,10 +23,10 @@ pub(crate) struct Projection {
 impl Model for Projection {
     ghost use Rattle.std.specs.Prelude.{length};
     ghost use Rattle.std.specs.List.{All};
-    ghost use Rattle.pipes_plan.specs.ExprKind.{IsTypedExpr};
-    ghost use Rattle.pipes_plan.specs.PlanKinds.{IsWidth};
+    ghost use Rattle.pipes_expr.specs.ExprKind.{IsTypedExpr};
+    ghost use Rattle.pipes_relation.specs.Relations.{IsWidth};
     ghost use Rattle.std.specs.Coded.{codes};
-    ghost use Rattle.pipes_plan.specs.contracts.expr.Expr as coding;
+    ghost use Rattle.pipes_expr.specs.contracts.expr.Expr as coding;
     ghost use Rattle.pipes_flat.specs.Typed.{ExprsOver};
 
     ghost Value = { ExprsOver };
@@ -65,10 +65,12 @@ impl Projection {
         }
     }
 
-    // The row of the expressions' values on the tuple, which fits the schema; none where it does not.
+    // The row of the expressions' values on the tuple, which fits the schema; none where it does
+    // not.
     #[tactic(auto, using(crate::proofs::Typing::typed_at))]
     pub(crate) fn row(&self, tuple: &Tuple) -> Result<Option<Tuple>, Memory>
-        ensures { IfOk result (λ row. Fits tuple.now self.now.schema → row ≡ Some (values_of self.now.exprs tuple.now)) }
+        ensures { IfOk result (λ row. Fits tuple.now self.now.schema
+            → row ≡ Some (values_of self.now.exprs tuple.now)) }
     {
         if !tuple.fits(&self.schema) {
             return Ok(None);

@@ -11,7 +11,8 @@ use pipes_time::Memory;
 
 // The element where it passes the condition, and else how far its list has come.
 fn filtered_elem(condition: &Condition, elem: Elem) -> Message
-    ensures { MessageFits (messages.Elem elem) condition.now.schema → result ≡ sent_for_elem elem (kept condition.now.expr elem.tuple) }
+    ensures { MessageFits (messages.Elem elem) condition.now.schema
+        → result ≡ sent_for_elem elem (kept condition.now.expr elem.tuple) }
 {
     if condition.holds(&elem.tuple) {
         Message::Elem(elem)
@@ -22,7 +23,8 @@ fn filtered_elem(condition: &Condition, elem: Elem) -> Message
 
 // What a filter sends for a message.
 fn filtered(condition: &Condition, message: Message) -> Message
-    ensures { MessageFits message condition.now.schema → result ≡ sent_for (kept condition.now.expr) message }
+    ensures { MessageFits message condition.now.schema → result ≡ sent_for (kept condition.now.expr)
+        message }
 {
     match message {
         Message::Elem(elem) => filtered_elem(condition, elem),
@@ -33,7 +35,8 @@ fn filtered(condition: &Condition, message: Message) -> Message
 
 // The element with its row replaced; where the row does not fit, how far its list has come.
 fn mapped_elem(projection: &Projection, elem: Elem) -> Result<Message, Memory>
-    ensures { IfOk result (λ sent. MessageFits (messages.Elem elem) projection.now.schema → sent ≡ sent_for_elem elem (changed projection.now.exprs elem.tuple)) }
+    ensures { IfOk result (λ sent. MessageFits (messages.Elem elem) projection.now.schema
+        → sent ≡ sent_for_elem elem (changed projection.now.exprs elem.tuple)) }
 {
     match projection.row(&elem.tuple)? {
         Some(tuple) => Ok(Message::Elem(Elem {
@@ -46,7 +49,8 @@ fn mapped_elem(projection: &Projection, elem: Elem) -> Result<Message, Memory>
 
 // What a map sends for a message.
 fn mapped(projection: &Projection, message: Message) -> Result<Message, Memory>
-    ensures { IfOk result (λ sent. MessageFits message projection.now.schema → sent ≡ sent_for (changed projection.now.exprs) message) }
+    ensures { IfOk result (λ sent. MessageFits message projection.now.schema
+        → sent ≡ sent_for (changed projection.now.exprs) message) }
 {
     match message {
         Message::Elem(elem) => mapped_elem(projection, elem),
@@ -61,7 +65,8 @@ pub(crate) fn send_filtered(
     message: Message,
     out: &mut Vec<Message>,
 ) -> Result<(), Memory>
-    ensures sends { OnOk result (Posts (kept condition.now.expr) condition.now.schema message out.old.items out.new.items) }
+    ensures sends { OnOk result (Posts (kept condition.now.expr) condition.now.schema message
+        out.old.items out.new.items) }
     ensures refused { OnErr result (out.new.items ≡ out.old.items) }
 {
     let sent = filtered(condition, message);
@@ -77,7 +82,8 @@ pub(crate) fn send_mapped(
     message: Message,
     out: &mut Vec<Message>,
 ) -> Result<(), Memory>
-    ensures sends { OnOk result (Posts (changed projection.now.exprs) projection.now.schema message out.old.items out.new.items) }
+    ensures sends { OnOk result (Posts (changed projection.now.exprs) projection.now.schema message
+        out.old.items out.new.items) }
     ensures refused { OnErr result (out.new.items ≡ out.old.items) }
 {
     let sent = mapped(projection, message)?;

@@ -1,11 +1,12 @@
 // An operator that sends the elements of two ports in the order of their starts.
-ghost use Rattle.std.specs.Prelude.{◌≡◌, ◌<◌, [], ◌∷◌, ◌++◌, ◌&&◌, List, IfOk, OnOk, OnErr, IsOk, map, min};
+ghost use Rattle.std.specs.Prelude.{◌≡◌, ◌<◌, [], ◌∷◌, ◌++◌, ◌&&◌, List, IfOk, OnOk, OnErr, IsOk};
+ghost use Rattle.std.specs.Prelude.{map, min};
 ghost use Rattle.pipes_stream.specs.declared.message.Message.{Message as Sent};
 ghost use Rattle.pipes_stream.specs.declared.message.Message.TheVariants as message;
 ghost use Rattle.pipes_stream.specs.Lawful.{no_messages, Takes};
 ghost use Rattle.pipes_plan.specs.PlanKinds.{IsTyped};
 ghost use Rattle.pipes_flat.specs.Tasks.{union_task};
-ghost use Rattle.pipes_flat.specs.Unions.{Sends, UnionStands, told_after, with_elem};
+ghost use Rattle.pipes_flat.specs.Unions.{Sends, UnionStands, beat_sent_after, with_elem};
 
 use pipes_stream::{Elem, Message, Operator, Watch};
 use pipes_sweep::Hold;
@@ -13,7 +14,8 @@ use pipes_time::Memory;
 use pipes_tuple::Schema;
 use std::alloc::Global;
 
-/// Sends the elements of both ports, in the order of their starts: an element waits until both heartbeats have reached its start.
+/// Sends the elements of both ports, in the order of their starts: an element waits until both
+/// heartbeats have reached its start.
 #[derive(Drop)]
 pub struct Union {
     alloc: Global,
@@ -35,16 +37,18 @@ fn append_elems(elems: Vec<Elem>, out: &mut Vec<Message>) -> Result<(), Memory>
     Ok(())
 }
 
-// Tells how far the list has come, where the elements do not show it. Without memory nothing is appended.
-fn tell(told: u64, now: u64, ended: bool, out: &mut Vec<Message>) -> Result<(), Memory>
-    ensures appended { OnOk result (out.new.items ≡ out.old.items ++ told_after told now ended) }
+// Tells how far the list has come, where the elements do not show it. Without memory nothing is
+// appended.
+fn tell(beat_sent: u64, now: u64, ended: bool, out: &mut Vec<Message>) -> Result<(), Memory>
+    ensures appended { OnOk result (out.new.items ≡ out.old.items
+        ++ beat_sent_after beat_sent now ended) }
     ensures refused { OnErr result (out.new.items ≡ out.old.items) }
 {
     if ended {
         out.push(Message::End)?;
         return Ok(());
     }
-    if told < now {
+    if beat_sent < now {
         out.push(Message::Beat(now))?;
         return Ok(());
     }
@@ -102,9 +106,10 @@ impl Union {
         self.right.is_ended()
     }
 
-    // Sends what is due, and how far that is; `told` was told before.
-    fn send(&mut self, told: u64, out: &mut Vec<Message>) -> Result<(), Memory>
-        ensures sends { OnOk result (Sends self.old self.new told out.old.items out.new.items) }
+    // Sends what is due, and how far that is; `known` was known before.
+    fn send(&mut self, beat_sent: u64, out: &mut Vec<Message>) -> Result<(), Memory>
+        ensures sends { OnOk result (Sends self.old self.new beat_sent out.old.items
+            out.new.items) }
         ensures same { self.new.schema ≡ self.old.schema }
         ensures grows { (more : List Sent) × (out.new.items ≡ out.old.items ++ more) }
     {
@@ -113,39 +118,42 @@ impl Union {
         let mut ready = Vec::new(self.alloc);
         self.hold.release(now, &mut ready)?;
         append_elems(ready, out)?;
-        tell(told, now, ended, out)?;
+        tell(beat_sent, now, ended, out)?;
         Ok(())
     }
 
     fn take_left(&mut self, message: Message, out: &mut Vec<Message>) -> Result<(), Memory>
-        ensures takes { OnOk result (Takes (union_task self.old.schema) (UnionStands self.old) (UnionStands self.new) 0 message out.old.items out.new.items) }
+        ensures takes { OnOk result (Takes (union_task self.old.schema) (UnionStands self.old)
+            (UnionStands self.new) 0 message out.old.items out.new.items) }
         ensures goes_on { OnOk result (self.new.failed ≡ self.old.failed) }
         ensures same { self.new.schema ≡ self.old.schema }
         ensures grows { (more : List Sent) × (out.new.items ≡ out.old.items ++ more) }
     {
-        let told = self.least();
+        let beat_sent = self.least();
         self.left.step(&message);
         keep(&mut self.hold, message)?;
-        self.send(told, out)?;
+        self.send(beat_sent, out)?;
         Ok(())
     }
 
     fn take_right(&mut self, message: Message, out: &mut Vec<Message>) -> Result<(), Memory>
-        ensures takes { OnOk result (Takes (union_task self.old.schema) (UnionStands self.old) (UnionStands self.new) 1 message out.old.items out.new.items) }
+        ensures takes { OnOk result (Takes (union_task self.old.schema) (UnionStands self.old)
+            (UnionStands self.new) 1 message out.old.items out.new.items) }
         ensures goes_on { OnOk result (self.new.failed ≡ self.old.failed) }
         ensures same { self.new.schema ≡ self.old.schema }
         ensures grows { (more : List Sent) × (out.new.items ≡ out.old.items ++ more) }
     {
-        let told = self.least();
+        let beat_sent = self.least();
         self.right.step(&message);
         keep(&mut self.hold, message)?;
-        self.send(told, out)?;
+        self.send(beat_sent, out)?;
         Ok(())
     }
 
     fn take_at(&mut self, port: u32, message: Message, out: &mut Vec<Message>) -> Result<(), Memory>
         requires { port < 2 }
-        ensures takes { OnOk result (Takes (union_task self.old.schema) (UnionStands self.old) (UnionStands self.new) port message out.old.items out.new.items) }
+        ensures takes { OnOk result (Takes (union_task self.old.schema) (UnionStands self.old)
+            (UnionStands self.new) port message out.old.items out.new.items) }
         ensures goes_on { OnOk result (self.new.failed ≡ self.old.failed) }
         ensures same { self.new.schema ≡ self.old.schema }
         ensures grows { (more : List Sent) × (out.new.items ≡ out.old.items ++ more) }

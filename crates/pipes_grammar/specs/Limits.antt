@@ -1,10 +1,13 @@
--- The limits of what is written in a text, as limits of its value: 32 levels of a plan and of each expression, 32 entries of a list.
+-- The limits of what is written in a text, as limits of its value: 32 levels of a plan and of each
+-- expression, 32 entries of a list.
 use Rattle.std.specs.Prelude.{◌≤◌, ℕ, max, List, [], ◌∷◌, length}
 use Rattle.pipes_token.specs.declared.token.TokenKind.{TokenKind}
-use Rattle.pipes_plan.specs.declared.expr.Expr.{Expr}
+use Rattle.pipes_expr.specs.declared.expr.Expr.{Expr}
 use Rattle.pipes_plan.specs.declared.plan.Plan.{Plan, fold-Plan}
-use Rattle.pipes_plan.specs.declared.plan.Plan.TheOpen.{Plan-F, Source, Filter, Map, Union, Join, Distinct, Group, Minus}
-use Rattle.pipes_plan.specs.Sizes.{expr_depth, plan_depth}
+use Rattle.pipes_plan.specs.declared.plan.Plan.TheOpen.{Plan-F, Source, Filter, Map, Union, Join}
+use Rattle.pipes_plan.specs.declared.plan.Plan.TheOpen.{Distinct, Group, Minus}
+use Rattle.pipes_expr.specs.ExprSize.{expr_depth}
+use Rattle.pipes_plan.specs.Sizes.{plan_depth}
 pub use Rattle.pipes_plan.specs.Sizes.{lists_step, longest_list}
 use Rattle.pipes_grammar.specs.Grammar.{IsExpr, IsFilled, IsPlan}
 

@@ -7,12 +7,13 @@ use Rattle.pipes_token.specs.declared.keyword.Keyword.TheVariants as keyword
 use Rattle.pipes_token.specs.declared.token.TokenKind.{TokenKind}
 use Rattle.pipes_token.specs.declared.token.TokenKind.TheVariants.{Sign, Keyword}
 use Rattle.pipes_token.specs.declared.token.Token.{Token}
-use Rattle.pipes_plan.specs.declared.expr.Expr.{Expr}
-use Rattle.pipes_plan.specs.declared.lists.Pair.{Pair}
-use Rattle.pipes_plan.specs.declared.lists.Agg.{Agg}
-use Rattle.pipes_plan.specs.declared.lists.Agg.TheVariants as agg
+use Rattle.pipes_expr.specs.declared.expr.Expr.{Expr}
+use Rattle.pipes_relation.specs.declared.lists.Pair.{Pair}
+use Rattle.pipes_relation.specs.declared.lists.Agg.{Agg}
+use Rattle.pipes_relation.specs.declared.lists.Agg.TheVariants as agg
 use Rattle.pipes_grammar.specs.declared.start.AggStart.{AggStart}
-use Rattle.pipes_grammar.specs.declared.start.AggStart.TheVariants.{Count, Sum, Min, Max, Avg, Other}
+use Rattle.pipes_grammar.specs.declared.start.AggStart.TheVariants.{Count, Sum, Min, Max, Avg}
+use Rattle.pipes_grammar.specs.declared.start.AggStart.TheVariants.{Other}
 use Rattle.pipes_reader.specs.Reading.{Reads, ◌>>=◌, run_out, refused_by, too_many}
 use Rattle.pipes_grammar.specs.Reading.{wanted}
 use Rattle.pipes_grammar.specs.ExprReading.{read_column, parse_expr}
@@ -44,12 +45,13 @@ step_from read ts = do
   goes_on ← read_goes_on x.1
   Ok ((x.0, goes_on.0), goes_on.1)
 
--- what is read behind other entries
-abbrev pub behind : {A : Type 0} → List A → Result (List A × List Token) Refusal → Result (List A × List Token) Refusal
-behind front others = others >>= λ xs. Ok (front ++ xs.0, xs.1)
+-- what is read after other entries
+abbrev pub later : {A : Type 0} → List A → Result (List A × List Token) Refusal
+    → Result (List A × List Token) Refusal
+later prefix others = others >>= λ xs. Ok (prefix ++ xs.0, xs.1)
 
 abbrev pub followed : {A : Type 0} → A × Bool → Reads (List A) → Reads (List A)
-followed (x, true) others ts = behind (x ∷ []) (others ts)
+followed (x, true) others ts = later (x ∷ []) (others ts)
 followed (x, false) others ts = Ok (x ∷ [], ts)
 
 -- at most so many entries and the end of the list
@@ -69,7 +71,7 @@ abbrev pub list_by : {A : Type 0} → TokenKind → Token → Reads A → Reads 
 list_by (Sign CloseList) t read ts = Ok ([], ts)
 list_by k t read ts = entries_within read 32 (t ∷ ts)
 
--- behind `[`
+-- after `[`
 unfoldable pub entries_from : {A : Type 0} → Reads A → Reads (List A)
 entries_from read [] = Err run_out
 entries_from read (t ∷ ts) = list_by t.kind t read ts

@@ -1,15 +1,14 @@
--- What stands between the two sides of an expression.
+-- The tokens between the two sides of an expression.
 use Rattle.std.specs.Prelude.{Option, Some, None}
 use Rattle.pipes_token.specs.declared.token.Sign.{Sign as ASign}
-use Rattle.pipes_token.specs.declared.token.Sign.TheVariants.{Plus, Minus, Star, Equal, Less, AtMost}
+use Rattle.pipes_token.specs.declared.token.Sign.TheVariants.{Plus, Minus, Star, Equal, Less}
+use Rattle.pipes_token.specs.declared.token.Sign.TheVariants.{AtMost}
 use Rattle.pipes_token.specs.declared.keyword.Keyword.{Keyword as AKeyword}
 use Rattle.pipes_token.specs.declared.keyword.Keyword.TheVariants as keyword
 use Rattle.pipes_token.specs.declared.token.TokenKind.{TokenKind}
 use Rattle.pipes_token.specs.declared.token.TokenKind.TheVariants.{Sign, Keyword}
-use Rattle.pipes_plan.specs.declared.expr.Expr.{Expr}
-use Rattle.pipes_plan.specs.declared.expr.Expr.TheVariants as expr
-use Rattle.pipes_grammar.specs.declared.op.Op.{Op}
-use Rattle.pipes_grammar.specs.declared.op.Op.TheVariants.{Add, Sub, Mul, Eq, Lt, Le, And, Or}
+use Rattle.pipes_expr.specs.declared.op.Op.{Op}
+use Rattle.pipes_expr.specs.declared.op.Op.TheVariants.{Add, Sub, Mul, Eq, Lt, Le, And, Or}
 
 abbrev pub op_of_sign : ASign → Option Op
 op_of_sign Plus = Some Add
@@ -30,14 +29,3 @@ abbrev pub op_of : TokenKind → Option Op
 op_of (Sign s) = op_of_sign s
 op_of (Keyword k) = op_of_keyword k
 op_of _ = None
-
--- the expression with these two sides
-abbrev pub joined : Op → Expr → Expr → Expr
-joined Add a b = expr.Add a b
-joined Sub a b = expr.Sub a b
-joined Mul a b = expr.Mul a b
-joined Eq a b = expr.Eq a b
-joined Lt a b = expr.Lt a b
-joined Le a b = expr.Le a b
-joined And a b = expr.And a b
-joined Or a b = expr.Or a b

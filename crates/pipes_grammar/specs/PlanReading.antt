@@ -1,20 +1,23 @@
 -- How a plan is read: its value, or its first refusal.
-use Rattle.std.specs.Prelude.{ℕ, zero, suc, Bool, true, false, List, [], ◌∷◌, Option, Some, None, Ok, Err}
+use Rattle.std.specs.Prelude.{ℕ, zero, suc, Bool, true, false, List, [], ◌∷◌, Option, Some, None}
+use Rattle.std.specs.Prelude.{Ok, Err}
 use Rattle.pipes_token.specs.declared.refusal.TextWhy.TheVariants as why
 use Rattle.pipes_token.specs.declared.token.Sign.TheVariants.{Open, Comma}
 use Rattle.pipes_token.specs.declared.keyword.Keyword.{Keyword as AKeyword}
 use Rattle.pipes_token.specs.declared.keyword.Keyword.TheVariants as keyword
 use Rattle.pipes_token.specs.declared.token.TokenKind.{TokenKind}
 use Rattle.pipes_token.specs.declared.token.TokenKind.TheVariants.{Sign, Keyword, Name}
-use Rattle.pipes_plan.specs.declared.expr.Expr.{Expr}
-use Rattle.pipes_plan.specs.declared.lists.Pair.{Pair}
-use Rattle.pipes_plan.specs.declared.lists.Agg.{Agg}
+use Rattle.pipes_expr.specs.declared.expr.Expr.{Expr}
+use Rattle.pipes_relation.specs.declared.lists.Pair.{Pair}
+use Rattle.pipes_relation.specs.declared.lists.Agg.{Agg}
 use Rattle.pipes_plan.specs.declared.plan.Plan.{Plan}
 use Rattle.pipes_plan.specs.declared.plan.Plan.TheVariants as plan
 use Rattle.pipes_grammar.specs.declared.start.PlanStart.{PlanStart}
-use Rattle.pipes_grammar.specs.declared.start.PlanStart.TheVariants.{Source, Filter, Map, Union, Join, Distinct, Group, Minus}
+use Rattle.pipes_grammar.specs.declared.start.PlanStart.TheVariants.{Source, Filter, Map, Union}
+use Rattle.pipes_grammar.specs.declared.start.PlanStart.TheVariants.{Join, Distinct, Group, Minus}
 use Rattle.pipes_grammar.specs.Grammar.{source_named}
-use Rattle.pipes_reader.specs.Reading.{Reads, ◌>>=◌, run_out, refusal, refused_by, place_of, too_deep}
+use Rattle.pipes_reader.specs.Reading.{Reads, ◌>>=◌, run_out, refusal, refused_by, place_of}
+use Rattle.pipes_reader.specs.Reading.{too_deep}
 use Rattle.pipes_grammar.specs.Reading.{wanted}
 use Rattle.pipes_grammar.specs.ExprReading.{is_close, parse_expr}
 use Rattle.pipes_grammar.specs.ListReading.{parse_exprs, parse_pairs, parse_columns, parse_aggs}
@@ -78,7 +81,7 @@ two_from read ts = do
   close ← wanted is_close b.1
   Ok ((a.0, b.0), close.1)
 
--- ---- nodes, behind their keyword
+-- ---- nodes, after their keyword
 
 unfoldable pub filter_from : Reads Plan → Reads Plan
 filter_from read ts = do

@@ -1,6 +1,6 @@
 // The entries of the lists in plans.
 ghost use Rattle.std.specs.Prelude.{◌≡◌};
-ghost use Rattle.pipes_plan.specs.declared.lists.Agg.TheVariants as agg;
+ghost use Rattle.pipes_relation.specs.declared.lists.Agg.TheVariants as agg;
 ghost use Rattle.pipes_reader.specs.Reading.{Gives};
 ghost use Rattle.pipes_grammar.specs.ExprReading as exprs;
 ghost use Rattle.pipes_grammar.specs.ListReading as spec;
@@ -9,7 +9,7 @@ use crate::ParseFault;
 use crate::expr::{parse_expr, read_column};
 use crate::list::Entry;
 use crate::start::{AggStart, agg_start};
-use crate::tokens::behind_equal;
+use crate::tokens::after_equal;
 use pipes_plan::{Agg, Expr, Pair};
 use pipes_reader::{ran_out, refused};
 use pipes_token::Token;
@@ -20,7 +20,7 @@ fn read_pair(tokens: &[Token]) -> Result<(Pair, &[Token]), ParseFault>
     ensures { Gives (λ x. (x.0, x.1.now)) result (spec.read_pair tokens.now) }
 {
     let (left, rest) = read_column(tokens)?;
-    let rest = behind_equal(rest)?;
+    let rest = after_equal(rest)?;
     let (right, rest) = read_column(rest)?;
     Ok((Pair { left, right }, rest))
 }

@@ -1,20 +1,21 @@
 // Expressions.
 ghost use Rattle.std.specs.Prelude.{◌≡◌, IfOk, IfErr, List};
 ghost use Rattle.pipes_token.specs.declared.token.Token.{Token};
-ghost use Rattle.pipes_plan.specs.declared.expr.Expr.{Expr};
+ghost use Rattle.pipes_expr.specs.declared.expr.Expr.{Expr};
 ghost use Rattle.pipes_grammar.specs.Limits.{IsExprText};
 ghost use Rattle.pipes_reader.specs.Reading.{Gives, done};
-ghost use Rattle.pipes_grammar.specs.Reading.{Front};
+ghost use Rattle.pipes_grammar.specs.Reading.{Prefix};
 ghost use Rattle.pipes_grammar.specs.ExprReading as spec;
 ghost use Rattle.pipes_grammar.specs.Places.{ExprRefused};
 
 use crate::ParseFault;
-use crate::op::{Op, join, op_of};
+use crate::op::op_of;
 use crate::start::{ExprStart, expr_start};
-use crate::tokens::{behind_close, out_of_range};
-use pipes_plan::Expr;
+use crate::tokens::{after_close, out_of_range};
+use pipes_plan::{Expr, Op};
 use pipes_reader::{place_of, ran_out, refused, too_deep};
 use pipes_token::{Token, TokenKind};
+use pipes_tuple::Value;
 use sqlite_items::Boxed;
 use std::alloc::Global;
 
@@ -47,7 +48,7 @@ pub fn read_column(tokens: &[Token]) -> Result<(u32, &[Token]), ParseFault>
     }
 }
 
-// A number behind a minus sign.
+// A number after a minus sign.
 #[tactic(auto, unfolding(crate::specs::ExprReading::read_negative))]
 fn read_negative(tokens: &[Token]) -> Result<(i64, &[Token]), ParseFault>
     ensures { Gives (λ x. (x.0, x.1.now)) result (spec.read_negative tokens.now) }
@@ -82,7 +83,7 @@ fn read_op(tokens: &[Token]) -> Result<(Op, &[Token]), ParseFault>
     }
 }
 
-// What stands behind `(`.
+// What stands after `(`.
 #[cycle(expr)]
 #[tactic(auto, unfolding(crate::specs::ExprReading::pair_from))]
 fn pair_from(
@@ -91,16 +92,19 @@ fn pair_from(
     left: u32,
     tokens: &[Token],
 ) -> Result<(Expr, &[Token]), ParseFault>
-    ensures { Gives (λ x. (x.0, x.1.now)) result (spec.pair_from (spec.expr_within left whole) tokens.now) }
+    ensures { Gives (λ x. (x.0, x.1.now)) result (spec.pair_from (spec.expr_within left whole)
+        tokens.now) }
 {
     let (a, rest) = expr_within(alloc, whole, left, tokens)?;
     let (op, rest) = read_op(rest)?;
     let (b, rest) = expr_within(alloc, whole, left, rest)?;
-    let rest = behind_close(rest)?;
-    Ok((join(alloc, op, a, b)?, rest))
+    let rest = after_close(rest)?;
+    let a = Boxed::new(alloc, a)?;
+    let b = Boxed::new(alloc, b)?;
+    Ok((Expr::Binary(op, a, b), rest))
 }
 
-// What stands behind `not`.
+// What stands after `not`.
 #[cycle(expr)]
 #[tactic(auto, unfolding(crate::specs::ExprReading::not_from))]
 fn not_from(
@@ -109,7 +113,8 @@ fn not_from(
     left: u32,
     tokens: &[Token],
 ) -> Result<(Expr, &[Token]), ParseFault>
-    ensures { Gives (λ x. (x.0, x.1.now)) result (spec.not_from (spec.expr_within left whole) tokens.now) }
+    ensures { Gives (λ x. (x.0, x.1.now)) result (spec.not_from (spec.expr_within left whole)
+        tokens.now) }
 {
     let (a, rest) = expr_within(alloc, whole, left, tokens)?;
     Ok((Expr::Not(Boxed::new(alloc, a)?), rest))
@@ -128,28 +133,29 @@ fn negative_expr(tokens: &[Token]) -> Result<(Expr, &[Token]), ParseFault>
     ensures { Gives (λ x. (x.0, x.1.now)) result (spec.negative_expr tokens.now) }
 {
     let (number, rest) = read_negative(tokens)?;
-    Ok((Expr::Int(number), rest))
+    Ok((Expr::Literal(Value::Int(number)), rest))
 }
 
 // An expression of one token.
 fn leaf_by<'a>(token: &Token, rest: &'a [Token]) -> Result<(Expr, &'a [Token]), ParseFault>
-    ensures { Gives (λ x. (x.0, x.1.now)) result (spec.leaf_by token.now.kind token.now.at rest.now) }
+    ensures { Gives (λ x. (x.0, x.1.now)) result (spec.leaf_by token.now.kind token.now.at
+        rest.now) }
 {
     match &token.kind {
         TokenKind::Number(n) => {
             if *n < END_OF_INTS {
-                Ok((Expr::Int(*n as i64), rest))
+                Ok((Expr::Literal(Value::Int(*n as i64)), rest))
             } else {
                 Err(out_of_range(token))
             }
         }
-        TokenKind::Text(text) => Ok((Expr::Text(text.copy()?), rest)),
+        TokenKind::Text(text) => Ok((Expr::Literal(Value::Text(text.copy()?)), rest)),
         TokenKind::Cut(refusal) => Err(ParseFault::Refused(*refusal)),
         _ => Err(ParseFault::Refused(refused(token))),
     }
 }
 
-// The expression at the front, with so many levels left, in one that begins at a place.
+// The expression at the start, with so many levels left, in one that begins at a place.
 #[cycle(expr)]
 #[tactic(auto, unfolding(crate::specs::ExprReading::expr_within, crate::specs::ExprReading::expr_layer))]
 fn expr_within(
@@ -170,7 +176,7 @@ fn expr_within(
             ExprStart::Not => not_from(alloc, whole, left - 1, rest),
             ExprStart::Column => column_expr(rest),
             ExprStart::Negative => negative_expr(rest),
-            ExprStart::Flag(flag) => Ok((Expr::Flag(flag), rest)),
+            ExprStart::Flag(flag) => Ok((Expr::Literal(Value::Flag(flag)), rest)),
             ExprStart::Leaf => leaf_by(token, rest),
         },
     }
@@ -184,13 +190,13 @@ pub fn parse_expr(alloc: Global, tokens: &[Token]) -> Result<(Expr, &[Token]), P
     expr_within(alloc, place_of(tokens), MOST_LEVELS, tokens)
 }
 
-/// The expression at the front, and the tokens behind it.
+/// The expression at the start, and the tokens after it.
 #[tactic(auto, using(crate::proofs::WholeExprs::expr_found, crate::proofs::WholeExprs::expr_refused))]
 pub fn read_expr(alloc: Global, tokens: &[Token]) -> Result<(Expr, &[Token]), ParseFault>
     // What is read is spelled by the tokens before the rest.
-    ensures found { IfOk result (λ x. Front IsExprText x.0 tokens.now x.1.now) }
+    ensures found { IfOk result (λ x. Prefix IsExprText x.0 tokens.now x.1.now) }
     // What is spelled so is read, unless memory runs out.
-    ensures only { (e : Expr) (rest : List Token) → Front IsExprText e tokens.now rest
+    ensures only { (e : Expr) (rest : List Token) → Prefix IsExprText e tokens.now rest
         → Gives (λ x. (x.0, x.1.now)) result (done e rest) }
     // A refusal comes at the first token with which no expression goes on.
     ensures first { IfErr result (λ fault. ExprRefused spec.parse_expr tokens.now fault) }

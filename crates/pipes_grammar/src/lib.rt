@@ -12,6 +12,5 @@ mod tokens;
 
 pub use expr::read_expr;
 pub use list::read_exprs;
-pub use op::Op;
 pub use pipes_reader::{ParseFault, refused};
 pub use plan::{read_plan, source_named};

@@ -2,16 +2,16 @@
 ghost use Rattle.std.specs.Prelude.{◌≡◌, ◌≤◌, IfOk, IfErr, List, Result, length, vec_len};
 ghost use Rattle.pipes_token.specs.declared.refusal.Refusal.{Refusal};
 ghost use Rattle.pipes_token.specs.declared.token.Token.{Token};
-ghost use Rattle.pipes_plan.specs.declared.expr.Expr.{Expr};
+ghost use Rattle.pipes_expr.specs.declared.expr.Expr.{Expr};
 ghost use Rattle.pipes_grammar.specs.Limits.{AreExprsText};
 ghost use Rattle.pipes_reader.specs.Reading.{Gives, done};
-ghost use Rattle.pipes_grammar.specs.Reading.{Front};
+ghost use Rattle.pipes_grammar.specs.Reading.{Prefix};
 ghost use Rattle.pipes_grammar.specs.Places.{ExprsRefused};
 ghost use Rattle.pipes_grammar.specs.ListReading as spec;
 
 use crate::ParseFault;
 use crate::node::parse_exprs;
-use crate::tokens::behind_open_list;
+use crate::tokens::after_open_list;
 use pipes_plan::Exprs;
 use pipes_reader::{ran_out, refused, too_many};
 use pipes_token::{Sign, Token, TokenKind};
@@ -57,32 +57,33 @@ fn step_from<T: Entry + Drop>(
     Ok((entry, goes_on, rest))
 }
 
-// At most so many entries, and what stands behind the end of the list.
+// At most so many entries, and what stands after the end of the list.
 fn entries_within<T: Entry + Drop>(
     alloc: Global,
     most: usize,
     tokens: &[Token],
 ) -> Result<(Vec<T>, &[Token]), ParseFault>
-    ensures value { Gives (λ x. (x.0.items, x.1.now)) result (spec.entries_within T.entry most tokens.now) }
+    ensures value { Gives (λ x. (x.0.items, x.1.now)) result
+        (spec.entries_within T.entry most tokens.now) }
     ensures bound { IfOk result (λ x. vec_len x.0 ≤ most) }
 {
     let mut list = Vec::new(alloc);
     let mut rest = tokens;
     'entries: for _ in 0..most {
-        let (entry, goes_on, behind) = match step_from::<T>(alloc, rest) {
+        let (entry, goes_on, later) = match step_from::<T>(alloc, rest) {
             Ok(step) => step,
             Err(fault) => return Err(fault),
         };
         list.push(entry)?;
         if !goes_on {
-            return Ok((list, behind));
+            return Ok((list, later));
         }
-        rest = behind;
+        rest = later;
     }
     Err(ParseFault::Refused(too_many(rest)))
 }
 
-// A list of at most 32 entries, from behind its `[` and one of them on.
+// A list of at most 32 entries, from after its `[` and one of them on.
 fn entries<T: Entry + Drop>(
     alloc: Global,
     tokens: &[Token],
@@ -101,11 +102,11 @@ pub fn filled_from<T: Entry + Drop>(
 ) -> Result<(BoundedList<T, MOST_ENTRIES>, &[Token]), ParseFault>
     ensures { Gives (λ x. (x.0, x.1.now)) result (spec.filled_from T.entry tokens.now) }
 {
-    let rest = behind_open_list(tokens)?;
+    let rest = after_open_list(tokens)?;
     entries(alloc, rest)
 }
 
-// What stands behind `[`: entries and the end of the list, or its end alone.
+// What stands after `[`: entries and the end of the list, or its end alone.
 #[tactic(auto, unfolding(crate::specs::ListReading::entries_from))]
 fn entries_from<T: Entry + Drop>(
     alloc: Global,
@@ -133,7 +134,7 @@ pub fn list_from<T: Entry + Drop>(
 ) -> Result<(BoundedList<T, MOST_ENTRIES>, &[Token]), ParseFault>
     ensures { Gives (λ x. (x.0, x.1.now)) result (spec.list_from T.entry tokens.now) }
 {
-    let rest = behind_open_list(tokens)?;
+    let rest = after_open_list(tokens)?;
     entries_from(alloc, rest)
 }
 
@@ -141,9 +142,9 @@ pub fn list_from<T: Entry + Drop>(
 #[tactic(auto, using(crate::proofs::EntryReaders::exprs_found, crate::proofs::KitReaders::exprs_refused))]
 pub fn read_exprs(alloc: Global, tokens: &[Token]) -> Result<(Exprs, &[Token]), ParseFault>
     // What is read is spelled by the tokens before the rest.
-    ensures found { IfOk result (λ x. Front AreExprsText x.0 tokens.now x.1.now) }
+    ensures found { IfOk result (λ x. Prefix AreExprsText x.0 tokens.now x.1.now) }
     // What is spelled so is read, unless memory runs out.
-    ensures only { (es : List Expr) (rest : List Token) → Front AreExprsText es tokens.now rest
+    ensures only { (es : List Expr) (rest : List Token) → Prefix AreExprsText es tokens.now rest
         → Gives (λ x. (x.0, x.1.now)) result (done es rest) }
     // A refusal comes at the first place at which the tokens can't go on.
     ensures first { IfErr result (λ fault. ExprsRefused spec.parse_exprs tokens.now fault) }

@@ -8,7 +8,7 @@ ghost use Rattle.pipes_grammar.specs.PlanReading as spec;
 use crate::ParseFault;
 use crate::expr::parse_expr;
 use crate::list::{filled_from, list_from};
-use crate::tokens::{behind_comma, behind_open};
+use crate::tokens::{after_comma, after_open};
 use pipes_plan::{Aggs, Expr, Exprs, Pairs, Plan};
 use pipes_time::Memory;
 use pipes_token::Token;
@@ -49,9 +49,9 @@ fn parse_aggs(alloc: Global, tokens: &[Token]) -> Result<(Aggs, &[Token]), Parse
 pub fn filter_head(alloc: Global, tokens: &[Token]) -> Result<(Expr, &[Token]), ParseFault>
     ensures { Gives (λ x. (x.0, x.1.now)) result (spec.filter_head tokens.now) }
 {
-    let rest = behind_open(tokens)?;
+    let rest = after_open(tokens)?;
     let (condition, rest) = parse_expr(alloc, rest)?;
-    let rest = behind_comma(rest)?;
+    let rest = after_comma(rest)?;
     Ok((condition, rest))
 }
 
@@ -60,9 +60,9 @@ pub fn filter_head(alloc: Global, tokens: &[Token]) -> Result<(Expr, &[Token]), 
 pub fn map_head(alloc: Global, tokens: &[Token]) -> Result<(Exprs, &[Token]), ParseFault>
     ensures { Gives (λ x. (x.0, x.1.now)) result (spec.map_head tokens.now) }
 {
-    let rest = behind_open(tokens)?;
+    let rest = after_open(tokens)?;
     let (exprs, rest) = parse_exprs(alloc, rest)?;
-    let rest = behind_comma(rest)?;
+    let rest = after_comma(rest)?;
     Ok((exprs, rest))
 }
 
@@ -71,11 +71,11 @@ pub fn map_head(alloc: Global, tokens: &[Token]) -> Result<(Exprs, &[Token]), Pa
 pub fn join_head(alloc: Global, tokens: &[Token]) -> Result<(Pairs, Expr, &[Token]), ParseFault>
     ensures { Gives (λ x. ((x.0, x.1), x.2.now)) result (spec.join_head tokens.now) }
 {
-    let rest = behind_open(tokens)?;
+    let rest = after_open(tokens)?;
     let (pairs, rest) = parse_pairs(alloc, rest)?;
-    let rest = behind_comma(rest)?;
+    let rest = after_comma(rest)?;
     let (condition, rest) = parse_expr(alloc, rest)?;
-    let rest = behind_comma(rest)?;
+    let rest = after_comma(rest)?;
     Ok((pairs, condition, rest))
 }
 
@@ -84,11 +84,11 @@ pub fn join_head(alloc: Global, tokens: &[Token]) -> Result<(Pairs, Expr, &[Toke
 pub fn group_head(alloc: Global, tokens: &[Token]) -> Result<(Cols, Aggs, &[Token]), ParseFault>
     ensures { Gives (λ x. ((x.0, x.1), x.2.now)) result (spec.group_head tokens.now) }
 {
-    let rest = behind_open(tokens)?;
+    let rest = after_open(tokens)?;
     let (columns, rest) = parse_columns(alloc, rest)?;
-    let rest = behind_comma(rest)?;
+    let rest = after_comma(rest)?;
     let (aggs, rest) = parse_aggs(alloc, rest)?;
-    let rest = behind_comma(rest)?;
+    let rest = after_comma(rest)?;
     Ok((columns, aggs, rest))
 }
 

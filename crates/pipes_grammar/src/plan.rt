@@ -5,12 +5,12 @@ ghost use Rattle.pipes_plan.specs.declared.plan.Plan.{Plan};
 ghost use Rattle.pipes_grammar.specs.Grammar as grammar;
 ghost use Rattle.pipes_grammar.specs.Limits.{IsPlanText};
 ghost use Rattle.pipes_reader.specs.Reading.{Gives, done};
-ghost use Rattle.pipes_grammar.specs.Reading.{Front};
+ghost use Rattle.pipes_grammar.specs.Reading.{Prefix};
 ghost use Rattle.pipes_grammar.specs.PlanReading as spec;
 ghost use Rattle.pipes_grammar.specs.Places.{PlanRefused};
 
 use crate::start::{PlanStart, plan_start};
-use crate::tokens::{behind_close, behind_comma, behind_open};
+use crate::tokens::{after_close, after_comma, after_open};
 use crate::{ParseFault, node};
 use pipes_plan::Plan;
 use pipes_reader::{place_of, ran_out, refused, too_deep};
@@ -50,7 +50,8 @@ fn source_by<'a>(
     rest: &'a [Token],
 ) -> Result<(Boxed<Plan>, &'a [Token]), ParseFault>
     requires { length names.now < 2 ^ 32 }
-    ensures { Gives (λ x. (x.0, x.1.now)) result (spec.source_by names.now token.now.kind token.now.at rest.now) }
+    ensures { Gives (λ x. (x.0, x.1.now)) result (spec.source_by names.now token.now.kind
+        token.now.at rest.now) }
 {
     match &token.kind {
         TokenKind::Name(word) => match source_named(names, word) {
@@ -75,10 +76,11 @@ fn one_from<'a>(
     tokens: &'a [Token],
 ) -> Result<(Boxed<Plan>, &'a [Token]), ParseFault>
     requires { length names.now < 2 ^ 32 }
-    ensures { Gives (λ x. (x.0, x.1.now)) result (spec.one_from (spec.plan_within names.now left whole) tokens.now) }
+    ensures { Gives (λ x. (x.0, x.1.now)) result (spec.one_from
+        (spec.plan_within names.now left whole) tokens.now) }
 {
     let (a, rest) = plan_within(alloc, names, whole, left, tokens)?;
-    let rest = behind_close(rest)?;
+    let rest = after_close(rest)?;
     Ok((a, rest))
 }
 
@@ -93,12 +95,13 @@ fn two_from<'a>(
     tokens: &'a [Token],
 ) -> Result<(Boxed<Plan>, Boxed<Plan>, &'a [Token]), ParseFault>
     requires { length names.now < 2 ^ 32 }
-    ensures { Gives (λ x. ((x.0, x.1), x.2.now)) result (spec.two_from (spec.plan_within names.now left whole) tokens.now) }
+    ensures { Gives (λ x. ((x.0, x.1), x.2.now)) result (spec.two_from
+        (spec.plan_within names.now left whole) tokens.now) }
 {
     let (a, rest) = plan_within(alloc, names, whole, left, tokens)?;
-    let rest = behind_comma(rest)?;
+    let rest = after_comma(rest)?;
     let (b, rest) = plan_within(alloc, names, whole, left, rest)?;
-    let rest = behind_close(rest)?;
+    let rest = after_close(rest)?;
     Ok((a, b, rest))
 }
 
@@ -112,7 +115,8 @@ fn filter_from<'a>(
     tokens: &'a [Token],
 ) -> Result<(Boxed<Plan>, &'a [Token]), ParseFault>
     requires { length names.now < 2 ^ 32 }
-    ensures { Gives (λ x. (x.0, x.1.now)) result (spec.filter_from (spec.plan_within names.now left whole) tokens.now) }
+    ensures { Gives (λ x. (x.0, x.1.now)) result (spec.filter_from
+        (spec.plan_within names.now left whole) tokens.now) }
 {
     let (condition, rest) = node::filter_head(alloc, tokens)?;
     let (a, rest) = one_from(alloc, names, whole, left, rest)?;
@@ -129,7 +133,8 @@ fn map_from<'a>(
     tokens: &'a [Token],
 ) -> Result<(Boxed<Plan>, &'a [Token]), ParseFault>
     requires { length names.now < 2 ^ 32 }
-    ensures { Gives (λ x. (x.0, x.1.now)) result (spec.map_from (spec.plan_within names.now left whole) tokens.now) }
+    ensures { Gives (λ x. (x.0, x.1.now)) result (spec.map_from
+        (spec.plan_within names.now left whole) tokens.now) }
 {
     let (exprs, rest) = node::map_head(alloc, tokens)?;
     let (a, rest) = one_from(alloc, names, whole, left, rest)?;
@@ -146,9 +151,10 @@ fn union_from<'a>(
     tokens: &'a [Token],
 ) -> Result<(Boxed<Plan>, &'a [Token]), ParseFault>
     requires { length names.now < 2 ^ 32 }
-    ensures { Gives (λ x. (x.0, x.1.now)) result (spec.union_from (spec.plan_within names.now left whole) tokens.now) }
+    ensures { Gives (λ x. (x.0, x.1.now)) result (spec.union_from
+        (spec.plan_within names.now left whole) tokens.now) }
 {
-    let rest = behind_open(tokens)?;
+    let rest = after_open(tokens)?;
     let (a, b, rest) = two_from(alloc, names, whole, left, rest)?;
     Ok((node::union(alloc, a, b)?, rest))
 }
@@ -163,7 +169,8 @@ fn join_from<'a>(
     tokens: &'a [Token],
 ) -> Result<(Boxed<Plan>, &'a [Token]), ParseFault>
     requires { length names.now < 2 ^ 32 }
-    ensures { Gives (λ x. (x.0, x.1.now)) result (spec.join_from (spec.plan_within names.now left whole) tokens.now) }
+    ensures { Gives (λ x. (x.0, x.1.now)) result (spec.join_from
+        (spec.plan_within names.now left whole) tokens.now) }
 {
     let (pairs, condition, rest) = node::join_head(alloc, tokens)?;
     let (a, b, rest) = two_from(alloc, names, whole, left, rest)?;
@@ -180,9 +187,10 @@ fn distinct_from<'a>(
     tokens: &'a [Token],
 ) -> Result<(Boxed<Plan>, &'a [Token]), ParseFault>
     requires { length names.now < 2 ^ 32 }
-    ensures { Gives (λ x. (x.0, x.1.now)) result (spec.distinct_from (spec.plan_within names.now left whole) tokens.now) }
+    ensures { Gives (λ x. (x.0, x.1.now)) result (spec.distinct_from
+        (spec.plan_within names.now left whole) tokens.now) }
 {
-    let rest = behind_open(tokens)?;
+    let rest = after_open(tokens)?;
     let (a, rest) = one_from(alloc, names, whole, left, rest)?;
     Ok((node::distinct(alloc, a)?, rest))
 }
@@ -197,7 +205,8 @@ fn group_from<'a>(
     tokens: &'a [Token],
 ) -> Result<(Boxed<Plan>, &'a [Token]), ParseFault>
     requires { length names.now < 2 ^ 32 }
-    ensures { Gives (λ x. (x.0, x.1.now)) result (spec.group_from (spec.plan_within names.now left whole) tokens.now) }
+    ensures { Gives (λ x. (x.0, x.1.now)) result (spec.group_from
+        (spec.plan_within names.now left whole) tokens.now) }
 {
     let (columns, aggs, rest) = node::group_head(alloc, tokens)?;
     let (a, rest) = one_from(alloc, names, whole, left, rest)?;
@@ -214,14 +223,15 @@ fn minus_from<'a>(
     tokens: &'a [Token],
 ) -> Result<(Boxed<Plan>, &'a [Token]), ParseFault>
     requires { length names.now < 2 ^ 32 }
-    ensures { Gives (λ x. (x.0, x.1.now)) result (spec.minus_from (spec.plan_within names.now left whole) tokens.now) }
+    ensures { Gives (λ x. (x.0, x.1.now)) result (spec.minus_from
+        (spec.plan_within names.now left whole) tokens.now) }
 {
-    let rest = behind_open(tokens)?;
+    let rest = after_open(tokens)?;
     let (a, b, rest) = two_from(alloc, names, whole, left, rest)?;
     Ok((node::minus(alloc, a, b)?, rest))
 }
 
-// The plan at the front, with so many levels left, in one that begins at a place.
+// The plan at the start, with so many levels left, in one that begins at a place.
 #[cycle(plan)]
 #[tactic(auto, unfolding(crate::specs::PlanReading::plan_within, crate::specs::PlanReading::plan_layer))]
 fn plan_within<'a>(
@@ -232,7 +242,8 @@ fn plan_within<'a>(
     tokens: &'a [Token],
 ) -> Result<(Boxed<Plan>, &'a [Token]), ParseFault>
     requires { length names.now < 2 ^ 32 }
-    ensures { Gives (λ x. (x.0, x.1.now)) result (spec.plan_within names.now left whole tokens.now) }
+    ensures { Gives (λ x. (x.0, x.1.now)) result (spec.plan_within names.now left whole
+        tokens.now) }
 {
     if left == 0 {
         return Err(ParseFault::Refused(too_deep(whole, tokens)));
@@ -266,7 +277,7 @@ fn parse_plan<'a>(
     Ok((plan.into_inner(), rest))
 }
 
-/// The plan at the front, over declared sources with these names, and the tokens behind it.
+/// The plan at the start, over declared sources with these names, and the tokens after it.
 #[tactic(auto, using(crate::proofs::WholePlans::plan_found, crate::proofs::WholePlans::plan_refused))]
 pub fn read_plan<'a>(
     alloc: Global,
@@ -275,12 +286,14 @@ pub fn read_plan<'a>(
 ) -> Result<(Plan, &'a [Token]), ParseFault>
     requires { length names.now < 2 ^ 32 }
     // What is read is spelled by the tokens before the rest.
-    ensures found { IfOk result (λ x. Front (IsPlanText names.now) x.0 tokens.now x.1.now) }
+    ensures found { IfOk result (λ x. Prefix (IsPlanText names.now) x.0 tokens.now x.1.now) }
     // What is spelled so is read, unless memory runs out.
-    ensures only { (p : Plan) (rest : List Token) → Front (IsPlanText names.now) p tokens.now rest
+    ensures only { (p : Plan) (rest : List Token) → Prefix (IsPlanText names.now) p tokens.now rest
         → Gives (λ x. (x.0, x.1.now)) result (done p rest) }
     // Where a source is declared, a refusal comes at the first token with which no plan goes on.
-    ensures first { 0 < length names.now → IfErr result (λ fault. PlanRefused names.now (spec.parse_plan names.now) tokens.now fault) }
+    ensures first { 0 < length names.now
+        → IfErr result (λ fault. PlanRefused names.now (spec.parse_plan names.now) tokens.now
+        fault) }
     // Which refusal it is.
     ensures exact { Gives (λ x. (x.0, x.1.now)) result (spec.parse_plan names.now tokens.now) }
 {

@@ -49,9 +49,9 @@ fn is_open_list(kind: &TokenKind) -> bool
     matches!(kind, TokenKind::Sign(Sign::OpenList))
 }
 
-// What stands behind `(`.
+// What stands after `(`.
 #[tactic(auto, unfolding(crate::specs::Reading::wanted))]
-pub fn behind_open(tokens: &[Token]) -> Result<&[Token], ParseFault>
+pub fn after_open(tokens: &[Token]) -> Result<&[Token], ParseFault>
     ensures { Gives (λ rest. (tt, rest.now)) result (wanted plans.is_open tokens.now) }
 {
     match tokens {
@@ -66,9 +66,9 @@ pub fn behind_open(tokens: &[Token]) -> Result<&[Token], ParseFault>
     }
 }
 
-// What stands behind `)`.
+// What stands after `)`.
 #[tactic(auto, unfolding(crate::specs::Reading::wanted))]
-pub fn behind_close(tokens: &[Token]) -> Result<&[Token], ParseFault>
+pub fn after_close(tokens: &[Token]) -> Result<&[Token], ParseFault>
     ensures { Gives (λ rest. (tt, rest.now)) result (wanted exprs.is_close tokens.now) }
 {
     match tokens {
@@ -83,9 +83,9 @@ pub fn behind_close(tokens: &[Token]) -> Result<&[Token], ParseFault>
     }
 }
 
-// What stands behind `,`.
+// What stands after `,`.
 #[tactic(auto, unfolding(crate::specs::Reading::wanted))]
-pub fn behind_comma(tokens: &[Token]) -> Result<&[Token], ParseFault>
+pub fn after_comma(tokens: &[Token]) -> Result<&[Token], ParseFault>
     ensures { Gives (λ rest. (tt, rest.now)) result (wanted plans.is_comma tokens.now) }
 {
     match tokens {
@@ -100,9 +100,9 @@ pub fn behind_comma(tokens: &[Token]) -> Result<&[Token], ParseFault>
     }
 }
 
-// What stands behind `=`.
+// What stands after `=`.
 #[tactic(auto, unfolding(crate::specs::Reading::wanted))]
-pub fn behind_equal(tokens: &[Token]) -> Result<&[Token], ParseFault>
+pub fn after_equal(tokens: &[Token]) -> Result<&[Token], ParseFault>
     ensures { Gives (λ rest. (tt, rest.now)) result (wanted lists.is_equal tokens.now) }
 {
     match tokens {
@@ -117,9 +117,9 @@ pub fn behind_equal(tokens: &[Token]) -> Result<&[Token], ParseFault>
     }
 }
 
-// What stands behind `[`.
+// What stands after `[`.
 #[tactic(auto, unfolding(crate::specs::Reading::wanted))]
-pub fn behind_open_list(tokens: &[Token]) -> Result<&[Token], ParseFault>
+pub fn after_open_list(tokens: &[Token]) -> Result<&[Token], ParseFault>
     ensures { Gives (λ rest. (tt, rest.now)) result (wanted lists.is_open_list tokens.now) }
 {
     match tokens {

@@ -16,10 +16,12 @@ unmarked (a ∷ b ∷ c ∷ rest) h = rw h refl
 
 -- where the machine comes to the end of the line within the first record
 pub is_single : (line : List ℕ) (fields : List (List ℕ)) → may_be_marked line ≡ false
-    → next_record default_config state.StartRecord [] [] line ≡ Some (fields, state.StartRecord, []) → content_of line ≡ single fields
+    → next_record default_config state.StartRecord [] [] line ≡ Some (fields, state.StartRecord, [])
+    → content_of line ≡ single fields
 unfolding next_record
 is_single line fields plain h =
-    ap (λ (l : List ℕ). content_by (next_record default_config state.StartRecord [] [] l)) (unmarked line plain) ∙ ap content_by h
+    ap (λ (l : List ℕ). content_by (next_record default_config state.StartRecord [] [] l))
+    (unmarked line plain) ∙ ap content_by h
 
 -- an empty line has no record
 pub empty_is_blank : content_of [] ≡ blank

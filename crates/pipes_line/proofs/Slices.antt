@@ -6,12 +6,15 @@ use Rattle.std.proofs.lemmas.List.{take-take, drop-take, drop-drop}
 abbrev pub between : ℕ → ℕ → List ℕ → List ℕ
 between from to bytes = take (to - from) (drop from bytes)
 
-pub front : (at filled count : ℕ) (bytes : List ℕ) → at + count ≤ filled → between at (at + count) bytes ≡ take count (between at filled bytes)
-front at filled count bytes h =
+pub prefix : (at filled count : ℕ) (bytes : List ℕ) → at + count ≤ filled
+    → between at (at + count) bytes ≡ take count (between at filled bytes)
+prefix at filled count bytes h =
     let size : at + count - at ≡ count = omega arith in
     rw size (sym (take-take count (filled - at) (drop at bytes) (omega arith)))
 
-pub back : (at filled count : ℕ) (bytes : List ℕ) → at + count ≤ filled → between (at + count) filled bytes ≡ drop count (between at filled bytes)
+pub back : (at filled count : ℕ) (bytes : List ℕ) → at + count ≤ filled
+    → between (at + count) filled bytes ≡ drop count (between at filled bytes)
 back at filled count bytes h =
     let size : filled - at ≡ count + (filled - (at + count)) = omega arith in
-    rw size (sym (drop-take count (filled - (at + count)) (drop at bytes) ∙ ap (take (filled - (at + count))) (drop-drop count at bytes)))
+    rw size (sym (drop-take count (filled - (at + count)) (drop at bytes)
+    ∙ ap (take (filled - (at + count))) (drop-drop count at bytes)))

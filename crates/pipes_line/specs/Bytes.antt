@@ -1,5 +1,6 @@
 -- The bytes of a line.
-use Rattle.std.specs.Prelude.{◌≡◌, ◌<◌, ℕ, List, Bool, true, not, ◌==◌, ◌&&◌, ◌-◌, length, take, drop, get_or, Option, Some, None}
+use Rattle.std.specs.Prelude.{◌≡◌, ◌<◌, ℕ, List, Bool, true, not, ◌==◌, ◌&&◌, ◌-◌, length, take}
+use Rattle.std.specs.Prelude.{drop, get_or, Option, Some, None}
 use Rattle.std.specs.List.{list_all}
 use Rattle.pipes_line.specs.declared.part.Part.{Part}
 

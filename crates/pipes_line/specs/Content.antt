@@ -13,14 +13,14 @@ pub data Content : Type 0 where
   several : Content
 
 -- by what follows the first record
-abbrev pub beside : List (List ℕ) → Option Read → Content
-beside fields None = single fields
-beside fields (Some second) = several
+abbrev pub after_record : List (List ℕ) → Option Read → Content
+after_record fields None = single fields
+after_record fields (Some second) = several
 
--- by the first record and what stands behind it
+-- by the first record and what stands after it
 abbrev pub content_by : Option Read → Content
 content_by None = blank
-content_by (Some first) = beside first.0 (next_record default_config first.1 [] [] first.2)
+content_by (Some first) = after_record first.0 (next_record default_config first.1 [] [] first.2)
 
 -- what a line holds: `csv` drops a byte order mark and reads by its defaults
 abbrev pub content_of : List ℕ → Content

@@ -1,5 +1,6 @@
 -- A field that is a part of its line.
-use Rattle.std.specs.Prelude.{◌≡◌, ◌<◌, ◌≤◌, ℕ, ◌+◌, List, [], ◌∷◌, ◌++◌, Bool, false, ◌==◌, Some, length, drop, get_or, if◌then◌else◌}
+use Rattle.std.specs.Prelude.{◌≡◌, ◌<◌, ◌≤◌, ℕ, ◌+◌, List, [], ◌∷◌, ◌++◌, Bool, false, ◌==◌, Some}
+use Rattle.std.specs.Prelude.{length, drop, get_or, if◌then◌else◌}
 use Rattle.csv.specs.Machine.{next_record}
 use Rattle.csv.specs.Reading.{default_config}
 use Rattle.csv.specs.declared.parser.State.{State}
@@ -21,7 +22,9 @@ pub record IsField (line : List ℕ) (from : ℕ) (part : Part) (next : ℕ) : T
   pub forward : from ≤ next
   pub within : next ≤ length line
   pub last : next ≡ length line → (fields : List (List ℕ))
-      → next_record default_config (state_at from) fields [] (drop from line) ≡ Some (fields ++ bytes_in line part ∷ [], state.StartRecord, [])
+      → next_record default_config (state_at from) fields [] (drop from line) ≡ Some
+      (fields ++ bytes_in line part ∷ [], state.StartRecord, [])
   pub comma : next < length line → get_or line next 0 ≡ 44 → (fields : List (List ℕ))
       → next_record default_config (state_at from) fields [] (drop from line)
-      ≡ next_record default_config state.StartField (fields ++ bytes_in line part ∷ []) [] (drop (next + 1) line)
+      ≡ next_record default_config state.StartField (fields ++ bytes_in line part ∷ []) []
+      (drop (next + 1) line)

@@ -1,5 +1,6 @@
 -- What a reader of lines has ahead, and what a call of it takes.
-use Rattle.std.specs.Prelude.{◌≡◌, ◌⊎◌, ℕ, ◌+◌, ◌<◌, ◌≤◌, List, [], ◌∷◌, ◌++◌, Bool, true, false, Option, length, ⊤}
+use Rattle.std.specs.Prelude.{◌≡◌, ◌⊎◌, ℕ, ◌+◌, ◌<◌, ◌≤◌, List, [], ◌∷◌, ◌++◌, Bool, true, false}
+use Rattle.std.specs.Prelude.{Option, length, ⊤}
 use Rattle.std.specs.Io.KnownBytes.{prepend_known, Keeps, IsAtEnd}
 use Rattle.pipes_line.specs.Bytes.{has_no_feed}
 use Rattle.pipes_line.specs.State.{LineState}
@@ -15,15 +16,17 @@ abbrev pub feed_of : Bool → List ℕ
 feed_of true = 10 ∷ []
 feed_of false = []
 
--- The line stood at the front of what was ahead. One without a line feed has a byte, and nothing follows it.
-pub record TakesLine (most : ℕ) (before now : Option (List ℕ)) (line : List ℕ) (ended : Bool) : Type 0 where
+-- The line stood at the start of what was ahead. One without a line feed has a byte, and nothing
+-- follows it.
+pub record TakesLine (most : ℕ) (before now : Option (List ℕ)) (line : List ℕ) (ended : Bool) : Type
+    0 where
   pub bytes : Keeps before (prepend_known (line ++ feed_of ended) now)
   pub within : has_no_feed line ≡ true
   pub short : length line ≤ most
   pub last : ended ≡ false → (0 < length line) × IsAtEnd now
 
 -- what was ahead begins with a line of more bytes than these
-pub record TakesFront (most : ℕ) (before now : Option (List ℕ)) (line : List ℕ) : Type 0 where
+pub record TakesPrefix (most : ℕ) (before now : Option (List ℕ)) (line : List ℕ) : Type 0 where
   pub bytes : Keeps before (prepend_known line now)
   pub within : has_no_feed line ≡ true
   pub long : most < length line
@@ -32,7 +35,7 @@ pub record TakesFront (most : ℕ) (before now : Option (List ℕ)) (line : List
 abbrev pub ReadsLine : ℕ → Option (List ℕ) → Option (List ℕ) → List ℕ → NextLine → Type 0
 ReadsLine most before now line (next.Line ended) = TakesLine most before now line ended
 ReadsLine most before now line next.End = IsAtEnd before × IsAtEnd now
-ReadsLine most before now line next.Long = TakesFront most before now line
+ReadsLine most before now line next.Long = TakesPrefix most before now line
 ReadsLine most before now line next.Failed = ⊤
 ReadsLine most before now line next.Memory = ⊤
 
@@ -47,9 +50,10 @@ TakesWaiting line unread now next.Failed = has_no_feed unread ≡ true
 TakesWaiting line unread now next.Long = ⊤
 TakesWaiting line unread now next.Memory = ⊤
 
--- a line that goes on has all that was read, and more was read behind it
-pub record GoesOn (most : ℕ) (old new : LineState) (left now : Option (List ℕ)) : Type 0 where
-  pub bytes : Keeps (prepend_known old.line (bytes_ahead old left)) (prepend_known new.line (bytes_ahead new now))
+-- a line that goes on has all that was read, and more was read after it
+pub record LineGoesOn (most : ℕ) (old new : LineState) (left now : Option (List ℕ)) : Type 0 where
+  pub bytes : Keeps (prepend_known old.line (bytes_ahead old left))
+      (prepend_known new.line (bytes_ahead new now))
   pub no_line_waited : has_no_feed old.unread ≡ true
   pub within : has_no_feed new.line ≡ true
   pub short : length new.line ≤ most

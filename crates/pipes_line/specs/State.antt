@@ -9,7 +9,8 @@ pub record Bytes : Type 0 where
 abbrev pub no_bytes : Bytes
 no_bytes = record { taken = []; unread = [] }
 
--- a reader of lines: the line it gave last, or what it has of the next one, and the bytes behind it that it has read already
+-- a reader of lines: the line it gave last, or what it has of the next one, and the bytes after it
+-- that it has read already
 pub record LineState : Type 0 where
   pub line : List ℕ
   pub unread : List ℕ

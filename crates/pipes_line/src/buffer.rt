@@ -28,9 +28,14 @@ impl Model for Buffer {
 
     ghost Value = { Bytes };
 
-    ghost view = { λ b. record { taken = take (b.to - b.from) (drop b.from b.bytes.items); unread = take (b.filled - b.at) (drop b.at b.bytes.items) } };
+    ghost view = { λ b. record {
+      taken = take (b.to - b.from) (drop b.from b.bytes.items);
+      unread =
+          take (b.filled - b.at) (drop b.at b.bytes.items);
+    } };
 
-    ghost invariant = { λ b. (vec_len b.bytes ≡ 65536) × (b.from ≤ b.to) × (b.to ≤ 65536) × (b.at ≤ b.filled) × (b.filled ≤ 65536) };
+    ghost invariant = { λ b. (vec_len b.bytes ≡ 65536) × (b.from ≤ b.to) × (b.to ≤ 65536)
+        × (b.at ≤ b.filled) × (b.filled ≤ 65536) };
 }
 
 impl Buffer {
@@ -65,7 +70,11 @@ impl Buffer {
     /// Takes so many bytes.
     pub(crate) fn take(&mut self, count: usize)
         requires { count ≤ length self.old.unread }
-        ensures { self.new ≡ record { taken = take count self.old.unread; unread = drop count self.old.unread } }
+        ensures { self.new ≡ record {
+          taken = take count self.old.unread;
+          unread =
+              drop count self.old.unread;
+        } }
     {
         self.from = self.at;
         self.at += count;
@@ -91,7 +100,8 @@ impl Buffer {
     pub(crate) fn fill<S: Source>(&mut self, src: &mut S) -> Result<usize, Failed>
         ensures count { IfOk result (λ count. count ≡ length self.new.unread) }
         ensures taken { self.new.taken ≡ [] }
-        ensures bytes { IfOk result (λ count. Consumes (S.left src.old) (S.left src.new) self.new.unread) }
+        ensures bytes { IfOk result (λ count. Consumes (S.left src.old) (S.left src.new)
+            self.new.unread) }
         ensures end { IfOk result (λ count. count ≡ 0 → IsAtEnd (S.left src.new)) }
         ensures cause { HasCause (S.faults src.old) (S.faults src.new) result }
         ensures name { S.name src.new ≡ S.name src.old }

@@ -22,9 +22,14 @@ impl Model for Copied {
 
     ghost Value = { Fields };
 
-    ghost view = { λ c. record { closed = map (bytes_in c.bytes.items) c.parts.items; last = drop c.from c.bytes.items } };
+    ghost view = { λ c. record {
+      closed = map (bytes_in c.bytes.items) c.parts.items;
+      last =
+          drop c.from c.bytes.items;
+    } };
 
-    ghost invariant = { λ c. (c.from ≤ vec_len c.bytes) × All (λ part. part.to ≤ vec_len c.bytes) c.parts.items };
+    ghost invariant = { λ c. (c.from ≤ vec_len c.bytes) × All (λ part. part.to ≤ vec_len c.bytes)
+        c.parts.items };
 }
 
 impl Copied {
@@ -66,7 +71,10 @@ impl Copied {
 
     /// Closes the open field, and opens another.
     pub(crate) fn close(&mut self) -> Result<(), Memory>
-        ensures { OnOk result (self.new ≡ record { closed = self.old.closed ++ self.old.last ∷ []; last = [] }) }
+        ensures { OnOk result (self.new ≡ record {
+          closed = self.old.closed ++ self.old.last ∷ [];
+          last = [];
+        }) }
     {
         let to = self.bytes.len();
         self.parts.push(Part {

@@ -22,11 +22,11 @@ enum Walk {
     Record,
     // At the start of a field.
     Field,
-    // In a field without quotes, or behind the quotes of one.
+    // In a field without quotes, or after the quotes of one.
     Bare,
     // Between quotes.
     Quoted,
-    // Behind a quote that ends the quoted part, unless another follows.
+    // After a quote that ends the quoted part, unless another follows.
     Quote,
 }
 
@@ -42,7 +42,8 @@ enum Fate {
 // One byte further, unless it ends the record.
 fn step(walk: Walk, byte: u8) -> Option<(Walk, Fate)>
     ensures begun { IfSome result (λ next. next.0 ≢ Walk.Record) }
-    ensures machine { IfSome result (λ next. machine.step default_config (state_of walk) byte ≡ (state_of next.0, action_of next.1)) }
+    ensures machine { IfSome result (λ next. machine.step default_config (state_of walk) byte ≡
+        (state_of next.0, action_of next.1)) }
 {
     match walk {
         Walk::Quoted => Some(if byte == b'"' {
@@ -62,8 +63,10 @@ fn step(walk: Walk, byte: u8) -> Option<(Walk, Fate)>
 
 // What a byte does to the fields that were read so far.
 fn act(fate: Fate, byte: u8, copied: &mut Copied) -> Result<(), Memory>
-    ensures closed { OnOk result (copied.new.closed ≡ machine.fields_after (action_of fate) copied.old.closed copied.old.last) }
-    ensures last { OnOk result (copied.new.last ≡ machine.field_after (action_of fate) byte copied.old.last) }
+    ensures closed { OnOk result (copied.new.closed ≡ machine.fields_after (action_of fate)
+        copied.old.closed copied.old.last) }
+    ensures last { OnOk result (copied.new.last ≡ machine.field_after (action_of fate) byte
+        copied.old.last) }
 {
     match fate {
         Fate::Dropped => Ok(()),
@@ -77,7 +80,8 @@ impl Record {
     pub(crate) fn unquote(&mut self, line: &[u8]) -> Result<bool, Memory>
         requires some { 0 < length line.now }
         requires plain { may_be_marked line.now ≡ false }
-        ensures { IfOk result (λ whole. IsTrue whole → content_of line.now ≡ single (fields_in self.new line.now)) }
+        ensures { IfOk result (λ whole. IsTrue whole → content_of line.now ≡ single
+            (fields_in self.new line.now)) }
     {
         self.is_copied = true;
         self.copied.clear();
@@ -95,7 +99,8 @@ impl Record {
 
     // What `csv` itself finds.
     pub(crate) fn read_by_csv(&mut self, line: &[u8]) -> Result<Shape, Memory>
-        ensures { IfOk result (λ shape. Shows shape (fields_in self.new line.now) (content_of line.now)) }
+        ensures { IfOk result (λ shape. Shows shape (fields_in self.new line.now)
+            (content_of line.now)) }
     {
         let alloc = *self.parts.allocator();
         let mut row = ByteRecord::new(alloc);

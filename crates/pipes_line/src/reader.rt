@@ -1,9 +1,11 @@
 // The lines of a source.
-ghost use Rattle.std.specs.Prelude.{◌≡◌, ◌≢◌, ◌⊎◌, ◌≤◌, ◌<◌, ◌+◌, ◌^◌, ◌++◌, [], ℕ, List, Option, Some, Err, true, take, drop, length, OnOk, IfOk, IfErr, IfSome, IfNone};
+ghost use Rattle.std.specs.Prelude.{◌≡◌, ◌≢◌, ◌⊎◌, ◌≤◌, ◌<◌, ◌+◌, ◌^◌, ◌++◌, [], ℕ, List, Option};
+ghost use Rattle.std.specs.Prelude.{Some, Err, true, take, drop, length, OnOk, IfOk, IfErr, IfSome};
+ghost use Rattle.std.specs.Prelude.{IfNone};
 ghost use Rattle.std.specs.Io.KnownBytes.{prepend_known, Consumes, IsAtEnd};
 ghost use Rattle.pipes_edge.specs.Causes.{Rose};
 ghost use Rattle.pipes_line.specs.Bytes.{FeedAt, FindsFeed, has_no_feed};
-ghost use Rattle.pipes_line.specs.Reading.{bytes_ahead, ReadsLine, GoesOn, TakesWaiting};
+ghost use Rattle.pipes_line.specs.Reading.{bytes_ahead, ReadsLine, LineGoesOn, TakesWaiting};
 ghost use Rattle.pipes_line.specs.State.{nothing_read, line_in};
 
 use crate::buffer::Buffer;
@@ -12,7 +14,7 @@ use pipes_time::Memory;
 use std::alloc::Global;
 use std::marker::Model;
 
-/// What stands at the front of a source.
+/// What stands at the start of a source.
 #[derive(Clone, Copy, Debug, PartialEq, Eq)]
 pub enum NextLine {
     /// A line, and whether a line feed ends it.
@@ -23,7 +25,7 @@ pub enum NextLine {
     Long,
     /// A read failed.
     Failed,
-    /// Want of memory.
+    /// Out of memory.
     Memory,
 }
 
@@ -40,11 +42,16 @@ impl Model for LineReader {
 
     ghost Value = { LineState };
 
-    ghost view = { λ r. record { line = line_in r.buffer.taken r.long.items; unread = r.buffer.unread } };
+    ghost view = { λ r. record {
+      line = line_in r.buffer.taken r.long.items;
+      unread =
+          r.buffer.unread;
+    } };
 }
 
 impl LineReader {
-    /// A reader that has read nothing. It takes all of its memory but that of a line that is longer than its buffer.
+    /// A reader that has read nothing. It takes all of its memory but that of a line that is longer
+    /// than its buffer.
     pub fn new(alloc: Global) -> Result<LineReader, Memory>
         ensures { IfOk result (λ reader. reader ≡ nothing_read) }
     {
@@ -71,7 +78,8 @@ impl LineReader {
     /// only where none of them waits.
     pub fn next_line<S: Source>(&mut self, src: &mut S, most: usize) -> NextLine
         requires { most < 2 ^ 62 }
-        ensures reads { ReadsLine most (bytes_ahead self.old (S.left src.old)) (bytes_ahead self.new (S.left src.new)) self.new.line result }
+        ensures reads { ReadsLine most (bytes_ahead self.old (S.left src.old))
+            (bytes_ahead self.new (S.left src.new)) self.new.line result }
         ensures waiting { TakesWaiting [] self.old.unread self.new result }
         ensures later { S.faults src.old ≤ S.faults src.new }
         ensures cause { result ≡ NextLine.Failed → Rose (S.faults src.old) (S.faults src.new) }
@@ -98,8 +106,11 @@ impl LineReader {
     fn go_on<S: Source>(&mut self, src: &mut S, most: usize) -> Option<NextLine>
         requires within { has_no_feed self.old.line ≡ true }
         requires short { length self.old.line ≤ most }
-        ensures answer { IfSome result (ReadsLine most (prepend_known self.old.line (bytes_ahead self.old (S.left src.old))) (bytes_ahead self.new (S.left src.new)) self.new.line) }
-        ensures going { IfNone result (GoesOn most self.old self.new (S.left src.old) (S.left src.new)) }
+        ensures answer { IfSome result
+            (ReadsLine most (prepend_known self.old.line (bytes_ahead self.old (S.left src.old)))
+            (bytes_ahead self.new (S.left src.new)) self.new.line) }
+        ensures going { IfNone result (LineGoesOn most self.old self.new (S.left src.old)
+            (S.left src.new)) }
         ensures waiting { IfSome result (TakesWaiting self.old.line self.old.unread self.new) }
         ensures later { S.faults src.old ≤ S.faults src.new }
         ensures cause { result ≡ Some NextLine.Failed → Rose (S.faults src.old) (S.faults src.new) }
@@ -128,7 +139,9 @@ impl LineReader {
     fn end_line(&mut self, len: usize, most: usize) -> NextLine
         requires feed { FeedAt self.old.unread len }
         requires within { has_no_feed self.old.line ≡ true }
-        ensures answer { (left : Option (List ℕ)) → ReadsLine most (prepend_known self.old.line (bytes_ahead self.old left)) (bytes_ahead self.new left) self.new.line result }
+        ensures answer { (left : Option (List ℕ)) → ReadsLine most
+            (prepend_known self.old.line (bytes_ahead self.old left)) (bytes_ahead self.new left)
+            self.new.line result }
         ensures cause { result ≢ NextLine.Failed }
         ensures waiting { TakesWaiting self.old.line self.old.unread self.new result }
     {
@@ -145,7 +158,11 @@ impl LineReader {
     // Moves so many bytes to the line.
     fn extend_line(&mut self, count: usize) -> Result<(), Memory>
         requires { count ≤ length self.old.unread }
-        ensures { OnOk result (self.new ≡ record { line = self.old.line ++ take count self.old.unread; unread = drop count self.old.unread }) }
+        ensures { OnOk result (self.new ≡ record {
+          line = self.old.line
+              ++ take count self.old.unread;
+          unread = drop count self.old.unread;
+        }) }
     {
         if self.line().is_empty() {
             self.buffer.take(count);
@@ -161,9 +178,11 @@ impl LineReader {
     fn refill<S: Source>(&mut self, src: &mut S) -> Result<usize, NextLine>
         ensures line { IfOk result (λ count. self.new.line ≡ self.old.line) }
         ensures count { IfOk result (λ count. count ≡ length self.new.unread) }
-        ensures bytes { IfOk result (λ count. Consumes (S.left src.old) (S.left src.new) self.new.unread) }
+        ensures bytes { IfOk result (λ count. Consumes (S.left src.old) (S.left src.new)
+            self.new.unread) }
         ensures end { IfOk result (λ count. count ≡ 0 → IsAtEnd (S.left src.new)) }
-        ensures fault { IfErr result (λ fault. (fault ≡ NextLine.Failed) ⊎ (fault ≡ NextLine.Memory)) }
+        ensures fault { IfErr result (λ fault. (fault ≡ NextLine.Failed)
+            ⊎ (fault ≡ NextLine.Memory)) }
         ensures later { S.faults src.old ≤ S.faults src.new }
         ensures cause { result ≡ Err NextLine.Failed → Rose (S.faults src.old) (S.faults src.new) }
         ensures name { S.name src.new ≡ S.name src.old }

@@ -20,7 +20,8 @@ pub enum Shape {
     Several,
 }
 
-/// The fields of one line. The line itself is kept by the caller, who hands it in again: only a line whose fields
+/// The fields of one line. The line itself is kept by the caller, who hands it in again: only a
+/// line whose fields
 /// are not parts of it is copied.
 #[derive(Debug, Drop)]
 pub struct Record {
@@ -41,7 +42,8 @@ impl Record {
 
     /// Finds the fields of a line.
     pub fn read(&mut self, line: &[u8]) -> Result<Shape, Memory>
-        ensures { IfOk result (λ shape. Shows shape (fields_in self.new line.now) (content_of line.now)) }
+        ensures { IfOk result (λ shape. Shows shape (fields_in self.new line.now)
+            (content_of line.now)) }
     {
         if line.is_empty() {
             return Ok(Shape::Blank);
@@ -67,7 +69,8 @@ impl Record {
 
     /// A field of the line that was read, which is handed in again.
     pub fn field<'a>(&'a self, line: &'a [u8], i: usize) -> Option<&'a [u8]>
-        ensures { option_map (λ field. field.now) result ≡ slice_get (fields_in self.now line.now) i }
+        ensures { option_map (λ field. field.now) result ≡ slice_get (fields_in self.now line.now)
+            i }
     {
         if self.is_copied {
             return self.copied.get(i);

@@ -1,5 +1,6 @@
 // Lines whose fields are parts of them.
-ghost use Rattle.std.specs.Prelude.{◌≡◌, ◌≤◌, ◌<◌, IfOk, IfSome, IsTrue, length, take, drop, true, false};
+ghost use Rattle.std.specs.Prelude.{◌≡◌, ◌≤◌, ◌<◌, IfOk, IfSome, IsTrue, length, take, drop, true};
+ghost use Rattle.std.specs.Prelude.{false};
 ghost use Rattle.std.specs.List.{list_all};
 ghost use Rattle.pipes_line.specs.Bytes.{is_inner, is_no_quote, QuoteAt};
 ghost use Rattle.pipes_line.specs.Content.{single, content_of};
@@ -13,12 +14,14 @@ use crate::part::Part;
 use pipes_time::Memory;
 
 impl Record {
-    // Splits a line at its commas and takes the quotes off its fields, unless a field has a quote beside or between
+    // Splits a line at its commas and takes the quotes off its fields, unless a field has a quote
+    // beside or between
     // those at its ends, or a record ends inside the line.
     pub(crate) fn split(&mut self, line: &[u8]) -> Result<bool, Memory>
         requires some { 0 < length line.now }
         requires plain { may_be_marked line.now ≡ false }
-        ensures { IfOk result (λ whole. IsTrue whole → content_of line.now ≡ single (fields_in self.new line.now)) }
+        ensures { IfOk result (λ whole. IsTrue whole → content_of line.now ≡ single
+            (fields_in self.new line.now)) }
     {
         self.is_copied = false;
         self.parts.clear();
@@ -39,7 +42,8 @@ impl Record {
     }
 }
 
-// The field that begins at this place, and where it ends; none where a quote is not followed by another.
+// The field that begins at this place, and where it ends; none where a quote is not followed by
+// another.
 fn field_from(line: &[u8], from: usize) -> Option<(Part, usize)>
     requires within { from ≤ length line.now }
     requires some { 0 < length line.now }

@@ -1,4 +1,5 @@
--- What contracts see of the two ends of a link. Each end counts by what it has seen of the other, which may be old.
+-- What contracts see of the two ends of a link. Each end counts by what it has seen of the other,
+-- which may be old.
 use Rattle.std.specs.Prelude.{◌≡◌, ℕ, ◌≤◌, List, length}
 use mathlib.Core.List.{IsPrefix}
 use Rattle.rtrb.specs.Ring as ring
@@ -47,4 +48,5 @@ module _ {T : Type 0} where
 
   -- a look at the other end: it takes nothing, and forgets no message that waits
   abbrev pub InletLooks : Inlet T → Inlet T → Type 0
-  InletLooks old new = (taken new ≡ taken old) × IsPrefix (known old) (known new) × (ready old ≤ ready new)
+  InletLooks old new = (taken new ≡ taken old) × IsPrefix (known old) (known new)
+      × (ready old ≤ ready new)

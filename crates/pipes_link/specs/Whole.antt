@@ -1,4 +1,5 @@
--- Whole lists. Where one link has taken another's place, `before` is what went through the links before it: no end keeps it.
+-- Whole lists. Where one link has taken another's place, `before` is what went through the links
+-- before it: no end keeps it.
 use Rattle.std.specs.Prelude.{◌≡◌, List, ◌++◌}
 use Rattle.pipes_link.specs.declared.outlet.Outlet.{Outlet}
 use Rattle.pipes_link.specs.declared.inlet.Inlet.{Inlet}
@@ -15,7 +16,8 @@ module _ {T : Type 0} where
 
   -- what the inlet's whole list lacks of the outlet's is what waits
   abbrev pub LacksWaiting : Outlet T → Inlet T → Type 0
-  LacksWaiting o i = (before all got : List T) → OutletStands before o all → InletStands before i got → got ++ known i ≡ all
+  LacksWaiting o i = (before all got : List T) → OutletStands before o all
+      → InletStands before i got → got ++ known i ≡ all
 
   -- both old ends stood for one list; with it before them, both new ends stand for it too
   abbrev pub KeepsWhole : Outlet T → Inlet T → Outlet T → Inlet T → Type 0

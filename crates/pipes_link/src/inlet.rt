@@ -26,11 +26,13 @@ impl<T: Drop> Inlet<T> {
         self.consumer.slots() as u64
     }
 
-    /// Takes the oldest message that waits, unless none does: where the inlet knows of none, it looks first.
+    /// Takes the oldest message that waits, unless none does: where the inlet knows of none, it
+    /// looks first.
     pub fn take(&mut self) -> Option<T>
         ensures took { IfSome result (λ message. taken self.new ≡ taken self.old ++ message ∷ []) }
         ensures succeeds { 0 < ready self.old → IsSome result }
-        ensures oldest { 0 < ready self.old → IfSome result (λ message. known self.old ≡ message ∷ known self.new) }
+        ensures oldest { 0 < ready self.old
+            → IfSome result (λ message. known self.old ≡ message ∷ known self.new) }
         ensures takes_one { 0 < ready self.old → ready self.old ≡ ready self.new + 1 }
         ensures none { IfNone result ((taken self.new ≡ taken self.old) × (ready self.new ≡ 0)) }
         ensures same_link { SameInlet self.old self.new }
@@ -41,7 +43,8 @@ impl<T: Drop> Inlet<T> {
         self.take_known()
     }
 
-    /// Takes the oldest message that is known to wait, unless none is, without a look at the other end. So what is taken was put in
+    /// Takes the oldest message that is known to wait, unless none is, without a look at the other
+    /// end. So what is taken was put in
     /// before the last look.
     pub fn take_known(&mut self) -> Option<T>
         ensures took { IfSome result (λ message. taken self.new ≡ taken self.old ++ message ∷ []) }

@@ -1,8 +1,10 @@
-//! Links: bounded rings of messages from a single producer to a single consumer. Each end counts by what it has seen of the other.
+//! Links: bounded rings of messages from a single producer to a single consumer. Each end counts by
+//! what it has seen of the other.
 #![tactic(auto)]
 
 ghost use Rattle.std.specs.Prelude.{◌≡◌, ◌≤◌, ◌+◌, ◌++◌, [], IfOk, OnOk, OnErr};
-ghost use Rattle.pipes_link.specs.Ends.{sent, spare, room_of, taken, known, ready, AreEnds, SameOutlet, SameInlet, OutletLooks, InletLooks};
+ghost use Rattle.pipes_link.specs.Ends.{sent, spare, room_of, taken, known, ready, AreEnds};
+ghost use Rattle.pipes_link.specs.Ends.{SameOutlet, SameInlet, OutletLooks, InletLooks};
 ghost use Rattle.pipes_link.specs.Whole.{LacksWaiting, KeepsWhole};
 
 mod inlet;
@@ -17,7 +19,8 @@ use std::alloc::Global;
 /// The most messages that a link has room for.
 pub const MOST_ROOM: u32 = 65_536;
 
-/// A link with places for `room` messages: a bounded ring of one producer and one consumer, whose ends may go to two threads.
+/// A link with places for `room` messages: a bounded ring of one producer and one consumer, whose
+/// ends may go to two threads.
 /// No step of either end waits for the other.
 pub fn link<T: Send + Drop>(alloc: Global, room: u32) -> Result<(Outlet<T>, Inlet<T>), Memory>
     requires at_least_one { 1 ≤ room }
@@ -33,7 +36,8 @@ pub fn link<T: Send + Drop>(alloc: Global, room: u32) -> Result<(Outlet<T>, Inle
     }
 }
 
-/// How many messages wait: those put in and not yet taken. Both ends then know each place and each message of the link,
+/// How many messages wait: those put in and not yet taken. Both ends then know each place and each
+/// message of the link,
 /// so this is for a thread that holds the two.
 pub fn settle<T>(outlet: &mut Outlet<T>, inlet: &mut Inlet<T>) -> u64
     requires { AreEnds outlet.old inlet.old }
@@ -65,7 +69,8 @@ pub fn relink<T: Drop>(
     ensures ends { AreEnds outlet.new inlet.new }
     ensures room { room_of outlet.new ≡ room_of outlet.old }
     ensures nothing_sent { OnOk result ((sent outlet.new ≡ []) × (taken inlet.new ≡ [])) }
-    ensures all_free { OnOk result ((spare outlet.new ≡ room_of outlet.new) × (ready inlet.new ≡ 0)) }
+    ensures all_free { OnOk result ((spare outlet.new ≡ room_of outlet.new)
+        × (ready inlet.new ≡ 0)) }
     ensures whole { OnOk result (KeepsWhole outlet.old inlet.old outlet.new inlet.new) }
     ensures memory { OnErr result ((outlet.new ≡ outlet.old) × (inlet.new ≡ inlet.old)) }
 {

@@ -32,12 +32,14 @@ impl<T: Drop> Outlet<T> {
         self.producer.slots() as u64
     }
 
-    /// Puts a message behind those put before, unless no place is free: where the outlet knows of none, it looks first.
+    /// Puts a message after those put before, unless no place is free: where the outlet knows of
+    /// none, it looks first.
     pub fn put(&mut self, message: T) -> Result<(), Full<T>>
         ensures put { OnOk result (sent self.new ≡ sent self.old ++ message ∷ []) }
         ensures succeeds { 0 < spare self.old → IsOk result }
         ensures takes_a_place { 0 < spare self.old → spare self.old ≡ spare self.new + 1 }
-        ensures full { IfErr result (λ refused. (refused.0 ≡ message) × (sent self.new ≡ sent self.old) × (spare self.new ≡ 0)) }
+        ensures full { IfErr result (λ refused. (refused.0 ≡ message)
+            × (sent self.new ≡ sent self.old) × (spare self.new ≡ 0)) }
         ensures same_link { SameOutlet self.old self.new }
     {
         if self.producer.cached_slots() == 0 && self.producer.slots() == 0 {

@@ -1,6 +1,8 @@
 -- What the lines of a normal text stand for: at each instant, the rows.
-use Rattle.std.proofs.Common.{◌≡◌, ◌≢◌, ◌⊎◌, ℕ, zero, suc, ◌+◌, ◌-◌, ◌≤◌, ◌<◌, Bool, true, false, cond, List, [], ◌∷◌, ◌++◌, map, refl, sym, ◌∙◌, ap, subst, arith, inl, inr}
-use Rattle.std.specs.List.{All, Contains, filter, flat_map, sum_by}
+use Rattle.std.proofs.Common.{◌≡◌, ◌⊎◌, ℕ, zero, suc, ◌+◌, ◌-◌, ◌≤◌, ◌<◌, Bool, true, false}
+use Rattle.std.proofs.Common.{cond, List, [], ◌∷◌, ◌++◌, map, refl, sym, ◌∙◌, ap, subst, arith, inl}
+use Rattle.std.proofs.Common.{inr}
+use Rattle.std.specs.List.{Contains, filter, flat_map, sum_by}
 use Rattle.std.specs.declared.cmp.Ordering.TheVariants.{Less}
 use Rattle.std.proofs.lemmas.Bool.{cases_lt, cases_eq}
 use Rattle.std.proofs.lemmas.Bool.Decides.{nat_tests}
@@ -8,16 +10,19 @@ use Rattle.std.proofs.lemmas.List.Elements.{All-contains}
 use Rattle.std.proofs.lemmas.List.Sums.{sum_by-cons}
 use Rattle.pipes_time.specs.Interval.{horizon}
 use Rattle.pipes_tuple.specs.declared.value.Value.{Value}
-use Rattle.pipes_tuple.specs.Bag.{count, SameBag}
+use Rattle.pipes_tuple.specs.Bag.{count}
 use Rattle.pipes_tuple.specs.Equal.{tuple_eq}
 use Rattle.pipes_tuple.proofs.Bags.{count-cons}
 use Rattle.pipes_tuple.proofs.Equality.{tuple_eq-Decides}
 use Rattle.pipes_stream.specs.declared.Elem.{Elem}
 use Rattle.pipes_stream.specs.Snapshot.{is_held, snapshot}
 use Rattle.pipes_output.specs.Periods.{Period}
-use Rattle.pipes_output.specs.NormalText.{IsLongestPeriod, IsPeriod, IsNormal, SameRows, LinesAreRows, copies_of, period_span, line_elements, period_cmp}
+use Rattle.pipes_output.specs.NormalText.{IsLongestPeriod, IsNormal}
+use Rattle.pipes_output.specs.NormalText.{LinesAreRows, copies_of, period_span, line_elements}
+use Rattle.pipes_output.specs.NormalText.{period_cmp}
 use Rattle.pipes_output.proofs.Longest.{IsSame, turns-longest}
-use Rattle.pipes_output.proofs.NormalLaws.{Rises, rises-first, rises-rest, first-or-rest, in-rest, in-first, nothing-in, not-itself}
+use Rattle.pipes_output.proofs.NormalLaws.{Rises, rises-first, rises-rest, first-or-rest, in-rest}
+use Rattle.pipes_output.proofs.NormalLaws.{in-first, nothing-in, not-itself}
 use Rattle.pipes_output.proofs.Those.{same-fields}
 
 -- ---- how often a tuple occurs among the copies

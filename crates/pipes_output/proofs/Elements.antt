@@ -1,5 +1,6 @@
 -- What the changes of elements say of their snapshots.
-use Rattle.std.proofs.Common.{◌≡◌, ℕ, ◌+◌, ◌-◌, ◌≤◌, ◌<◌, Bool, true, false, not, ◌&&◌, cond, List, [], ◌∷◌, ◌++◌, map, refl, sym, ◌∙◌, ap, subst, arith}
+use Rattle.std.proofs.Common.{◌≡◌, ℕ, ◌+◌, ◌≤◌, ◌<◌, Bool, true, false, not, ◌&&◌, cond, List}
+use Rattle.std.proofs.Common.{[], ◌∷◌, map, refl, sym, ◌∙◌, ap, arith}
 use Rattle.std.specs.List.{All, filter}
 use Rattle.std.specs.List.Sorted.{IsPermutation}
 use Rattle.std.specs.Prelude.{nat_le, nat_lt}
@@ -14,7 +15,8 @@ use Rattle.pipes_stream.specs.declared.Elem.{Elem}
 use Rattle.pipes_stream.specs.Snapshot.{is_held, snapshot}
 use Rattle.pipes_output.specs.Periods.{Period}
 use Rattle.pipes_output.specs.NormalText.{IsPeriod}
-use Rattle.pipes_output.specs.Changes.{Change, all_changes, begun, ended, present, Rising, AreAllChanges}
+use Rattle.pipes_output.specs.Changes.{Change, all_changes, begun, ended, present, Rising}
+use Rattle.pipes_output.specs.Changes.{AreAllChanges}
 use Rattle.pipes_output.specs.Sweeps.{AreThose, IsPeriodOf}
 use Rattle.pipes_output.proofs.Those.{AreThose-like}
 use Rattle.pipes_output.proofs.Counting.{count_by-cons}

@@ -1,16 +1,17 @@
 -- The normal text of rows: there is one, and it depends on the rows at each instant alone.
-use Rattle.std.proofs.Common.{◌≡◌, ◌⊎◌, ℕ, zero, suc, ◌+◌, ◌-◌, ◌≤◌, ◌<◌, List, [], ◌∷◌, length, get_or, refl, sym, ◌∙◌, ap, subst, arith, inl, inr}
+use Rattle.std.proofs.Common.{◌≡◌, ◌⊎◌, ℕ, zero, suc, ◌<◌, List, [], ◌∷◌, length}
+use Rattle.std.proofs.Common.{get_or, refl, sym, ◌∙◌, ap, arith, inl, inr}
 use Rattle.std.specs.List.{All, AllPairs, Contains, flat_map}
 use Rattle.std.specs.declared.cmp.Ordering.{Ordering}
-use Rattle.std.specs.declared.cmp.Ordering.TheVariants.{Less, Equal, Greater}
+use Rattle.std.specs.declared.cmp.Ordering.TheVariants.{Less}
 use Rattle.std.specs.Ordering.{ordering_reverse}
 use Rattle.std.proofs.lemmas.Cmp.{tied_itself}
 use Rattle.std.proofs.lemmas.List.Elements.{All-contains}
 use Rattle.pipes_tuple.specs.declared.value.Value.{Value}
-use Rattle.pipes_tuple.specs.Bag.{count, SameBag}
-use Rattle.pipes_time.specs.Interval.{horizon}
+use Rattle.pipes_tuple.specs.Bag.{count}
 use Rattle.pipes_output.specs.Periods.{Period}
-use Rattle.pipes_output.specs.NormalText.{IsPeriod, IsNormal, IsNormalText, SameRows, OneNormalText, period_cmp, period_line}
+use Rattle.pipes_output.specs.NormalText.{IsPeriod, IsNormal, SameRows, OneNormalText}
+use Rattle.pipes_output.specs.NormalText.{period_cmp, period_line}
 use Rattle.pipes_output.proofs.Grouping.{IsLongestPeriod-same}
 use Rattle.pipes_output.proofs.Ordering.{period_cmp-total}
 

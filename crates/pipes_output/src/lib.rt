@@ -20,3 +20,4 @@ pub use fault::EntryFault;
 pub use form::Form;
 pub use normal::Normal;
 pub use period::Period;
+pub use write::push_fields;

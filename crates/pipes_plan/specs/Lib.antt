@@ -1,10 +1,5 @@
-pub mod CodedEqual
-pub mod ExprValue
-pub mod ExprKind
-pub mod Aggregate
 pub mod Algebra
 pub mod PlanKinds
-pub mod Seen
 pub mod Sizes
 pub mod Refusals
 pub mod Found

@@ -2,12 +2,11 @@
 use Rattle.std.specs.Prelude.{ℕ, List, [], ◌∷◌, ◌++◌, codes}
 use Rattle.std.specs.Fmt.{decimal}
 use Rattle.std.specs.List.{flat_map}
-use Rattle.pipes_tuple.specs.declared.value.Value.TheVariants as value
 use Rattle.pipes_tuple.specs.Texts.{text_of}
-use Rattle.pipes_plan.specs.declared.expr.Expr.{Expr, fold-Expr}
-use Rattle.pipes_plan.specs.declared.expr.Expr.TheOpen.{Expr-F, Col, Int, Text, Flag, Add, Sub, Mul, Eq, Lt, Le, And, Or, Not}
-use Rattle.pipes_grammar.specs.declared.op.Op.{Op}
-use Rattle.pipes_grammar.specs.declared.op.Op.TheVariants as op
+use Rattle.pipes_expr.specs.declared.expr.Expr.{Expr, fold-Expr}
+use Rattle.pipes_expr.specs.declared.expr.Expr.TheOpen.{Expr-F, Col, Literal, Binary, Not}
+use Rattle.pipes_expr.specs.declared.op.Op.{Op}
+use Rattle.pipes_expr.specs.declared.op.Op.TheVariants as op
 
 -- a sign or a word between the two sides
 abbrev pub op_text : Op → List ℕ
@@ -26,17 +25,8 @@ sides_text o a b = codes "(" ++ (a ++ (op_text o ++ (b ++ codes ")")))
 
 abbrev pub expr_step : Expr-F (List ℕ) → List ℕ
 expr_step (Col i) = codes "$" ++ decimal i
-expr_step (Int n) = text_of (value.Int n)
-expr_step (Text t) = text_of (value.Text t)
-expr_step (Flag b) = text_of (value.Flag b)
-expr_step (Add a b) = sides_text op.Add a b
-expr_step (Sub a b) = sides_text op.Sub a b
-expr_step (Mul a b) = sides_text op.Mul a b
-expr_step (Eq a b) = sides_text op.Eq a b
-expr_step (Lt a b) = sides_text op.Lt a b
-expr_step (Le a b) = sides_text op.Le a b
-expr_step (And a b) = sides_text op.And a b
-expr_step (Or a b) = sides_text op.Or a b
+expr_step (Literal v) = text_of v
+expr_step (Binary o a b) = sides_text o a b
 expr_step (Not a) = codes "not " ++ a
 
 -- a literal is printed as the value that it is, anything else node by node

@@ -2,11 +2,12 @@
 use Rattle.std.specs.Prelude.{ℕ, List, [], ◌∷◌, ◌++◌, codes, slice_get}
 use Rattle.std.specs.Fmt.{decimal}
 use Rattle.std.specs.Option.{unwrap_or}
-use Rattle.pipes_plan.specs.declared.lists.Pair.{Pair}
-use Rattle.pipes_plan.specs.declared.lists.Agg.{Agg}
-use Rattle.pipes_plan.specs.declared.lists.Agg.TheVariants as agg
+use Rattle.pipes_relation.specs.declared.lists.Pair.{Pair}
+use Rattle.pipes_relation.specs.declared.lists.Agg.{Agg}
+use Rattle.pipes_relation.specs.declared.lists.Agg.TheVariants as agg
 use Rattle.pipes_plan.specs.declared.plan.Plan.{Plan, fold-Plan}
-use Rattle.pipes_plan.specs.declared.plan.Plan.TheOpen.{Plan-F, Source, Filter, Map, Union, Join, Distinct, Group, Minus}
+use Rattle.pipes_plan.specs.declared.plan.Plan.TheOpen.{Plan-F, Source, Filter, Map, Union, Join}
+use Rattle.pipes_plan.specs.declared.plan.Plan.TheOpen.{Distinct, Group, Minus}
 use Rattle.pipes_print.specs.ExprText.{expr_text, list_text}
 
 abbrev pub pair_text : Pair → List ℕ
@@ -26,11 +27,14 @@ source_text names i = unwrap_or (slice_get names i) []
 abbrev pub plan_step : List (List ℕ) → Plan-F (List ℕ) → List ℕ
 plan_step names (Source i) = source_text names i
 plan_step names (Filter c a) = codes "filter(" ++ (expr_text c ++ (codes ", " ++ (a ++ codes ")")))
-plan_step names (Map es a) = codes "map(" ++ (list_text expr_text es ++ (codes ", " ++ (a ++ codes ")")))
+plan_step names (Map es a) = codes "map(" ++ (list_text expr_text es
+    ++ (codes ", " ++ (a ++ codes ")")))
 plan_step names (Union a b) = codes "union(" ++ (a ++ (codes ", " ++ (b ++ codes ")")))
-plan_step names (Join k c a b) = codes "join(" ++ (list_text pair_text k ++ (codes ", " ++ (expr_text c ++ (codes ", " ++ (a ++ (codes ", " ++ (b ++ codes ")")))))))
+plan_step names (Join k c a b) = codes "join(" ++ (list_text pair_text k
+    ++ (codes ", " ++ (expr_text c ++ (codes ", " ++ (a ++ (codes ", " ++ (b ++ codes ")")))))))
 plan_step names (Distinct a) = codes "distinct(" ++ (a ++ codes ")")
-plan_step names (Group k g a) = codes "group(" ++ (list_text decimal k ++ (codes ", " ++ (list_text agg_text g ++ (codes ", " ++ (a ++ codes ")")))))
+plan_step names (Group k g a) = codes "group(" ++ (list_text decimal k
+    ++ (codes ", " ++ (list_text agg_text g ++ (codes ", " ++ (a ++ codes ")")))))
 plan_step names (Minus a b) = codes "minus(" ++ (a ++ (codes ", " ++ (b ++ codes ")")))
 
 -- node by node, each source by its name

@@ -2,7 +2,7 @@
 use Rattle.std.specs.Prelude.{◌≡◌, ℕ, List, [], ◌∷◌}
 use Rattle.pipes_token.specs.declared.token.TokenKind.{TokenKind}
 use Rattle.pipes_token.specs.Writing.{Writes, WritesFreely, IsSpelled}
-use Rattle.pipes_plan.specs.declared.expr.Expr.{Expr}
+use Rattle.pipes_expr.specs.declared.expr.Expr.{Expr}
 use Rattle.pipes_plan.specs.declared.plan.Plan.{Plan}
 use Rattle.pipes_grammar.specs.Limits.{IsExprText, AreExprsText, IsPlanText}
 use Rattle.pipes_print.specs.ExprText.{expr_text, list_text}

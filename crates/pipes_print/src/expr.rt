@@ -7,27 +7,28 @@ ghost use Rattle.pipes_print.specs.Printed.{AreSpelled, ExprPrinted, ExprsPrinte
 
 use crate::list::{Entry, push_list};
 use crate::piece::{push, push_number, push_value};
-use pipes_grammar::Op;
-use pipes_plan::Expr;
+use pipes_plan::{Expr, Op};
 use pipes_time::Memory;
-use pipes_tuple::Value;
 
-/// Appends the text of the expression. After want of memory `out` is as before.
+/// Appends the text of the expression. After out of memory `out` is as before.
 pub fn print_expr(expr: &Expr, out: &mut Vec<u8>) -> Result<(), Memory>
     ensures ok { OnOk result (out.new.items ≡ out.old.items ++ expr_text expr.now) }
     ensures err { OnErr result (out.new.items ≡ out.old.items) }
-    ensures read_back { (kinds : List AKind) → IsExprText expr.now kinds → AreSpelled kinds → ExprPrinted expr.now }
+    ensures read_back { (kinds : List AKind) → IsExprText expr.now kinds → AreSpelled kinds
+        → ExprPrinted expr.now }
 {
     let mut text = Vec::new(*out.allocator());
     push_expr(expr, &mut text)?;
     push(text.as_slice(), out)
 }
 
-/// Appends the text of the list of expressions, in brackets. After want of memory `out` is as before.
+/// Appends the text of the list of expressions, in brackets. After out of memory `out` is as
+/// before.
 pub fn print_exprs(exprs: &[Expr], out: &mut Vec<u8>) -> Result<(), Memory>
     ensures ok { OnOk result (out.new.items ≡ out.old.items ++ list_text expr_text exprs.now) }
     ensures err { OnErr result (out.new.items ≡ out.old.items) }
-    ensures read_back { (kinds : List AKind) → AreExprsText exprs.now kinds → AreSpelled kinds → ExprsPrinted exprs.now }
+    ensures read_back { (kinds : List AKind) → AreExprsText exprs.now kinds → AreSpelled kinds
+        → ExprsPrinted exprs.now }
 {
     let mut text = Vec::new(*out.allocator());
     push_list(exprs, &mut text)?;
@@ -54,17 +55,8 @@ pub(crate) fn push_expr(expr: &Expr, out: &mut Vec<u8>) -> Result<(), Memory>
             push(b"$", out)?;
             push_number(*column, out)
         }
-        Expr::Int(number) => push_value(&Value::Int(*number), out),
-        Expr::Text(text) => push_value(&Value::Text(text.copy()?), out),
-        Expr::Flag(flag) => push_value(&Value::Flag(*flag), out),
-        Expr::Add(a, b) => push_sides(a.get(), Op::Add, b.get(), out),
-        Expr::Sub(a, b) => push_sides(a.get(), Op::Sub, b.get(), out),
-        Expr::Mul(a, b) => push_sides(a.get(), Op::Mul, b.get(), out),
-        Expr::Eq(a, b) => push_sides(a.get(), Op::Eq, b.get(), out),
-        Expr::Lt(a, b) => push_sides(a.get(), Op::Lt, b.get(), out),
-        Expr::Le(a, b) => push_sides(a.get(), Op::Le, b.get(), out),
-        Expr::And(a, b) => push_sides(a.get(), Op::And, b.get(), out),
-        Expr::Or(a, b) => push_sides(a.get(), Op::Or, b.get(), out),
+        Expr::Literal(value) => push_value(value, out),
+        Expr::Binary(op, a, b) => push_sides(a.get(), *op, b.get(), out),
         Expr::Not(a) => {
             push(b"not ", out)?;
             push_expr(a.get(), out)
@@ -75,7 +67,8 @@ pub(crate) fn push_expr(expr: &Expr, out: &mut Vec<u8>) -> Result<(), Memory>
 // Appends two sides in brackets.
 #[cycle(push)]
 fn push_sides(a: &Expr, op: Op, b: &Expr, out: &mut Vec<u8>) -> Result<(), Memory>
-    ensures { OnOk result (out.new.items ≡ out.old.items ++ sides_text op (expr_text a.now) (expr_text b.now)) }
+    ensures { OnOk result (out.new.items ≡ out.old.items ++ sides_text op (expr_text a.now)
+        (expr_text b.now)) }
 {
     push(b"(", out)?;
     push_expr(a, out)?;

@@ -85,9 +85,10 @@ fn push_entries<T: Entry>(entries: &[T], out: &mut Vec<u8>) -> Result<(), Memory
     }
 }
 
-// Appends the entries, each behind a comma.
+// Appends the entries, each after a comma.
 fn push_others<T: Entry>(entries: &[T], out: &mut Vec<u8>) -> Result<(), Memory>
-    ensures { OnOk result (out.new.items ≡ out.old.items ++ flat_map (λ entry. codes ", " ++ T.text entry) entries.now) }
+    ensures { OnOk result (out.new.items ≡ out.old.items ++ flat_map (λ entry. codes ", "
+        ++ T.text entry) entries.now) }
 {
     for entry in entries {
         push_next(entry, out)?;
@@ -95,7 +96,7 @@ fn push_others<T: Entry>(entries: &[T], out: &mut Vec<u8>) -> Result<(), Memory>
     Ok(())
 }
 
-// Appends the entry behind a comma.
+// Appends the entry after a comma.
 fn push_next<T: Entry>(entry: &T, out: &mut Vec<u8>) -> Result<(), Memory>
     ensures { OnOk result (out.new.items ≡ out.old.items ++ (codes ", " ++ T.text entry.now)) }
 {

@@ -13,11 +13,13 @@ use pipes_plan::Plan;
 use pipes_time::Memory;
 use pipes_tuple::Text;
 
-/// Appends the text of the plan over sources with these names, in order. After want of memory `out` is as before.
+/// Appends the text of the plan over sources with these names, in order. After out of memory `out`
+/// is as before.
 pub fn print_plan(names: &[Text], plan: &Plan, out: &mut Vec<u8>) -> Result<(), Memory>
     ensures ok { OnOk result (out.new.items ≡ out.old.items ++ plan_text names.now plan.now) }
     ensures err { OnErr result (out.new.items ≡ out.old.items) }
-    ensures read_back { (kinds : List AKind) → IsPlanText names.now plan.now kinds → AreSpelled kinds → PlanPrinted names.now plan.now }
+    ensures read_back { (kinds : List AKind) → IsPlanText names.now plan.now kinds
+        → AreSpelled kinds → PlanPrinted names.now plan.now }
 {
     let mut text = Vec::new(*out.allocator());
     push_plan(names, plan, &mut text)?;
@@ -72,10 +74,11 @@ fn push_plan(names: &[Text], plan: &Plan, out: &mut Vec<u8>) -> Result<(), Memor
     }
 }
 
-// Appends the last plan of a node, behind a comma.
+// Appends the last plan of a node, after a comma.
 #[cycle(push)]
 fn push_last(names: &[Text], plan: &Plan, out: &mut Vec<u8>) -> Result<(), Memory>
-    ensures { OnOk result (out.new.items ≡ out.old.items ++ (codes ", " ++ (plan_text names.now plan.now ++ codes ")"))) }
+    ensures { OnOk result (out.new.items ≡ out.old.items ++ (codes ", "
+        ++ (plan_text names.now plan.now ++ codes ")"))) }
 {
     push(b", ", out)?;
     push_plan(names, plan, out)?;
@@ -85,7 +88,8 @@ fn push_last(names: &[Text], plan: &Plan, out: &mut Vec<u8>) -> Result<(), Memor
 // Appends the two plans of a node.
 #[cycle(push)]
 fn push_both(names: &[Text], a: &Plan, b: &Plan, out: &mut Vec<u8>) -> Result<(), Memory>
-    ensures { OnOk result (out.new.items ≡ out.old.items ++ (plan_text names.now a.now ++ (codes ", " ++ (plan_text names.now b.now ++ codes ")")))) }
+    ensures { OnOk result (out.new.items ≡ out.old.items ++ (plan_text names.now a.now
+        ++ (codes ", " ++ (plan_text names.now b.now ++ codes ")")))) }
 {
     push_plan(names, a, out)?;
     push_last(names, b, out)

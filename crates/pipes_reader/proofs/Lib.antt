@@ -1,4 +1,5 @@
 pub mod TokenLists
+pub mod Causes
 pub mod Readers
 pub mod Singles
 pub mod Repeats

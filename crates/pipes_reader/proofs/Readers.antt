@@ -1,15 +1,21 @@
 -- What holds of a reader, and of two readers in turn.
-use Rattle.std.proofs.Common.{◌≡◌, Bool, true, false, List, [], ◌∷◌, ◌++◌, Option, None, Result, Ok, Err, refl, sym, ap, subst, ◌∙◌, append_assoc}
+use Rattle.std.proofs.Common.{◌≡◌, Bool, true, false, List, [], ◌∷◌, ◌++◌, Option, None, Result, Ok}
+use Rattle.std.proofs.Common.{Err, refl, sym, ap, subst, ◌∙◌, append_assoc, ◌⊎◌, inl, inr, Some}
 use Rattle.std.proofs.lemmas.List.{append-nil}
 use Rattle.pipes_token.specs.declared.refusal.Refusal.{Refusal}
 use Rattle.pipes_token.specs.declared.token.TokenKind.{TokenKind}
 use Rattle.pipes_token.specs.declared.token.Token.{Token}
 use Rattle.pipes_reader.specs.Reading.{Reads, ◌>>=◌, kinds_of, in_turn}
-use Rattle.pipes_reader.specs.Sentences.{Grammar, GrammarBefore, Begins, next_of, ahead, Prefix, has_last}
-use Rattle.pipes_reader.specs.Places.{Refusals, AtToken, there, inside}
-use Rattle.pipes_reader.proofs.TokenLists.{kinds-append, split, next-append, next-same, both_unended, last_after}
+use Rattle.pipes_reader.specs.Sentences.{Grammar, GrammarBefore, Anywhere, Begins, next_of, ahead}
+use Rattle.pipes_reader.specs.Sentences.{Prefix, has_last}
+use Rattle.pipes_reader.specs.Causes.{AreAlike}
+use Rattle.pipes_reader.specs.Places.{Refusals, FirstPlace, AtToken, there, inside}
+use Rattle.pipes_reader.proofs.Causes.{why_map, Refuses, CauseOf}
+use Rattle.pipes_reader.proofs.TokenLists.{kinds-append, split, next-append, next-same}
+use Rattle.pipes_reader.proofs.TokenLists.{both_unended, last_after}
 
--- A refusal at a token: what is before it begins a sentence, and it is the same whatever follows.
+-- A refusal at a token: what is before it begins a sentence, it is the same whatever follows, and
+-- its cause is the grammar's.
 pub record RefusedAt {A B : Type 0} (Is : Grammar A) (Where : Refusals)
     (read : List Token → Result B Refusal) (ts : List Token) (r : Refusal) : Type 0 where
   pub before : List Token
@@ -19,19 +25,22 @@ pub record RefusedAt {A B : Type 0} (Is : Grammar A) (Where : Refusals)
   pub begins : Begins Is (kinds_of before)
   pub stands : (other : List Token) → read (before ++ (refused ∷ other)) ≡ Err r
   pub place : Where before refused r
+  pub cause : CauseOf Is read before refused.kind r.why
 
 -- Is: the grammar without limits. In: its sentences within the limits, each before the tokens
--- before
--- which it may be.
+-- before which it may be.
 pub record IsReader {A : Type 0} (Is : Grammar A) (In : GrammarBefore A) (Where : Refusals)
     (read : Reads A) : Type 0 where
   -- what is read is a sentence,
   pub found : (ts : List Token) (x : A) (rest : List Token) → read ts ≡ Ok (x, rest)
       → Prefix In x ts rest
   -- each sentence is read,
-  pub only : (x : A) (front rest : List Token) → In x (kinds_of front) (next_of rest)
-      → read (front ++ rest) ≡ Ok (x, rest)
+  pub only : (x : A) (prefix rest : List Token) → In x (kinds_of prefix) (next_of rest)
+      → read (prefix ++ rest) ≡ Ok (x, rest)
   pub wider : (x : A) (ks : List TokenKind) (h : Option TokenKind) → In x ks h → Is x ks
+  -- each may be before tokens that are alike,
+  pub alike : (x : A) (ks : List TokenKind) (k j : TokenKind) → AreAlike k j → In x ks (Some k)
+      → In x ks (Some j)
   -- none has the last token of a text,
   pub unended : (x : A) (ks : List TokenKind) → Is x ks → has_last ks ≡ false
   -- and before that one a refusal comes at the first token with which nothing goes on.
@@ -75,17 +84,31 @@ module _ {A B : Type 0} (Is : Grammar A) (Next : A → Grammar B)
             (sym (append_assoc ks us more)) whole,
       )
 
+-- whatever follows this sentence, it may be there
+abbrev pub IsFree : {A : Type 0} → GrammarBefore A → A → List TokenKind → Type 0
+IsFree In x ks = (h : Option TokenKind) → In x ks h
+
+-- something is read
+abbrev pub ReadsSome : {B : Type 0} → Reads B → Type 0
+ReadsSome {B} read = (ts : List Token) × (y : B) × (rest : List Token) × (read ts ≡ Ok (y, rest))
+
+-- After each sentence anything may follow, or the next reader doesn't refuse everything.
+abbrev pub Continues : {A B : Type 0} → GrammarBefore A → (A → Reads B) → Type 0
+Continues {A} In next = (x : A) (ks : List TokenKind) (h : Option TokenKind) → In x ks h
+    → IsFree In x ks ⊎ ReadsSome (next x)
+
 module _ {A B : Type 0} (Is : Grammar A) (In : GrammarBefore A) (Next : A → Grammar B)
     (NextIn : A → GrammarBefore B) (First : Refusals) (Second : A → Refusals) (Where : Refusals)
     (read : Reads A) (next : A → Reads B) (one : IsReader Is In First read)
     (two : (x : A) (ks : List TokenKind) → Is x ks
     → IsReader (Next x) (NextIn x) (Second x) (next x))
     (some : (x : A) (ks : List TokenKind) → Is x ks → Begins (Next x) [])
+    (goes_on : Continues In next)
     (place_first : (before : List Token) (t : Token) (r : Refusal) → First before t r
     → Where before t r)
-    (place_second : (x : A) (front before : List Token) (t : Token) (r : Refusal)
-    → In x (kinds_of front) (next_of (before ++ (t ∷ []))) → Second x before t r
-    → Where (front ++ before) t r) where
+    (place_second : (x : A) (prefix before : List Token) (t : Token) (r : Refusal)
+    → In x (kinds_of prefix) (next_of (before ++ (t ∷ []))) → Second x before t r
+    → Where (prefix ++ before) t r) where
   found_both : (ts : List Token) (y : B) (rest : List Token) (q : Result (A × List Token) Refusal)
       → read ts ≡ q → (q >>= λ x. next x.0 x.1) ≡ Ok (y, rest)
       → Prefix (ThenBefore In NextIn) y ts rest
@@ -105,24 +128,24 @@ module _ {A B : Type 0} (Is : Grammar A) (In : GrammarBefore A) (Next : A → Gr
   found_both ts y rest (Err r) is e = absurd cc
 
   only_both : (y : B) (ks : List TokenKind) (h : Option TokenKind) → ThenBefore In NextIn y ks h
-      → (front rest : List Token) → ks ≡ kinds_of front → h ≡ next_of rest
-      → in_turn read next (front ++ rest) ≡ Ok (y, rest)
-  only_both _ _ _ (turn x y ks ls h is later) front rest e f =
-      let p = split ks ls front e in
+      → (prefix rest : List Token) → ks ≡ kinds_of prefix → h ≡ next_of rest
+      → in_turn read next (prefix ++ rest) ≡ Ok (y, rest)
+  only_both _ _ _ (turn x y ks ls h is later) prefix rest e f =
+      let p = split ks ls prefix e in
       let after : ahead ls h ≡ next_of (p.back ++ rest) =
       ap (λ (z : List TokenKind). ahead z h) p.back_kinds
       ∙ ap (λ (z : Option TokenKind). ahead (kinds_of p.back) z) f
       ∙ sym (next-append p.back rest) in
-      let here : In x (kinds_of p.front) (next_of (p.back ++ rest)) =
-      subst (λ (z : Option TokenKind). In x (kinds_of p.front) z) after
-      (subst (λ (z : List TokenKind). In x z (ahead ls h)) p.front_kinds is) in
+      let here : In x (kinds_of p.prefix) (next_of (p.back ++ rest)) =
+      subst (λ (z : Option TokenKind). In x (kinds_of p.prefix) z) after
+      (subst (λ (z : List TokenKind). In x z (ahead ls h)) p.prefix_kinds is) in
       let there : NextIn x y (kinds_of p.back) (next_of rest) =
       subst (λ (z : Option TokenKind). NextIn x y (kinds_of p.back) z) f
       (subst (λ (z : List TokenKind). NextIn x y z h) p.back_kinds later) in
-      let first = one.only x p.front (p.back ++ rest) here in
+      let first = one.only x p.prefix (p.back ++ rest) here in
       let second = (two x ks (one.wider x ks (ahead ls h) is)).only y p.back rest there in
-      let parts : front ++ rest ≡ p.front ++ (p.back ++ rest) =
-      ap (λ (z : List Token). z ++ rest) p.parts ∙ append_assoc p.front p.back rest in
+      let parts : prefix ++ rest ≡ p.prefix ++ (p.back ++ rest) =
+      ap (λ (z : List Token). z ++ rest) p.parts ∙ append_assoc p.prefix p.back rest in
       rw (parts, first) second
 
   wider_both : (y : B) (ks : List TokenKind) (h : Option TokenKind) → ThenBefore In NextIn y ks h
@@ -135,6 +158,55 @@ module _ {A B : Type 0} (Is : Grammar A) (In : GrammarBefore A) (Next : A → Gr
   unended_both _ _ (both x y ks ls is later) =
       both_unended ks ls (one.unended x ks is) ((two x ks is).unended y ls later)
 
+  alike_both : (y : B) (ks : List TokenKind) (h : Option TokenKind) → ThenBefore In NextIn y ks h
+      → (k j : TokenKind) → AreAlike k j → h ≡ Some k → ThenBefore In NextIn y ks (Some j)
+  alike_both _ _ _ (turn x y ks ls h is later) k j a e =
+      let wide = one.wider x ks (ahead ls h) is in
+      turn x y ks ls (Some j)
+      (first ls (subst (λ (z : Option TokenKind). In x ks (ahead ls z)) e is))
+      ((two x ks wide).alike y ls k j a
+      (subst (λ (z : Option TokenKind). NextIn x y ls z) e later))
+    where
+      first : (ls : List TokenKind) → In x ks (ahead ls (Some k)) → In x ks (ahead ls (Some j))
+      first [] is = one.alike x ks k j a is
+      first (l ∷ ls) is = is
+
+  -- ---- causes
+
+  refuses_first : (ts : List Token) → Refuses read ts → Refuses (in_turn read next) ts
+  refuses_first ts (d, e) = (d, rw e refl)
+
+  refuses_second : (x : A) (prefix before ts : List Token) → In x (kinds_of prefix) (next_of
+      (before ++ ts)) → Refuses (next x) (before ++ ts)
+      → Refuses (in_turn read next) ((prefix ++ before) ++ ts)
+  refuses_second x prefix before ts is (d, e) =
+      (d, rw (append_assoc prefix before ts, one.only x prefix (before ++ ts) is) e)
+
+  -- where the next reader refuses everything, anything may follow
+  full_after : (x : A) (prefix before : List Token) (t : Token)
+      → In x (kinds_of prefix) (next_of (before ++ (t ∷ [])))
+      → ((other : List Token) → Refuses (next x) (before ++ other)) → (other : List Token)
+      → In x (kinds_of prefix) (next_of (before ++ other))
+  full_after x prefix (v ∷ before) t is full other = is
+  full_after x prefix [] t is full other =
+      elim (goes_on x (kinds_of prefix) (Some t.kind) is) [
+        | inl free ↦ free (next_of other)
+        | inr some ↦ absurd (differ some.1 some.2 some.0 some.3 (full some.0))
+      ]
+    where
+      differ : (y : B) (rest ts : List Token) → next x ts ≡ Ok (y, rest) → Refuses (next x) ts → ⊥
+      differ y rest ts e (d, f) = cc
+
+  alike_after : (x : A) (prefix before : List Token) (t : Token)
+      → In x (kinds_of prefix) (next_of (before ++ (t ∷ []))) → (j : TokenKind)
+      → AreAlike t.kind j
+      → (u : Token) (other : List Token) → u.kind ≡ j
+      → In x (kinds_of prefix) (next_of (before ++ (u ∷ other)))
+  alike_after x prefix (v ∷ before) t is j a u other e = is
+  alike_after x prefix [] t is j a u other e =
+      subst (λ (k : TokenKind). In x (kinds_of prefix) (Some k)) (sym e)
+      (one.alike x (kinds_of prefix) t.kind j a is)
+
   at_first : (ts : List Token) (r : Refusal) → RefusedAt Is First read ts r
       → RefusedAt (Then Is Next) Where (in_turn read next) ts r
   at_first ts r s = record {
@@ -145,35 +217,53 @@ module _ {A B : Type 0} (Is : Grammar A) (In : GrammarBefore A) (Next : A → Gr
     begins = ended Is Next some (kinds_of s.before) s.begins;
     stands = λ other. rw (s.stands other) refl;
     place = place_first s.before s.refused r s.place;
+    cause = why_map _ _ _ _ _ _ (λ k goes. ended Is Next some (kinds_of s.before ++ (k ∷ [])) goes)
+        (λ full other. refuses_first (s.before ++ other) (full other)) s.refused.kind r.why
+        (λ j a stuck u other e. refuses_first (s.before ++ (u ∷ other)) (stuck u other e)) s.cause;
   }
 
-  at_second : (ts : List Token) (r : Refusal) (x : A) (front us : List Token)
-      → In x (kinds_of front) (next_of us) → ts ≡ front ++ us
+  at_second : (ts : List Token) (r : Refusal) (x : A) (prefix us : List Token)
+      → In x (kinds_of prefix) (next_of us) → ts ≡ prefix ++ us
       → RefusedAt (Next x) (Second x) (next x) us r
       → RefusedAt (Then Is Next) Where (in_turn read next) ts r
-  at_second ts r x front us w parts s = record {
-    before = front ++ s.before;
+  at_second ts r x prefix us w parts s = record {
+    before = prefix ++ s.before;
     refused = s.refused;
     after = s.after;
-    parts = parts ∙ ap (λ (z : List Token). front ++ z) s.parts
-        ∙ sym (append_assoc front s.before (s.refused ∷ s.after));
+    parts = parts ∙ ap (λ (z : List Token). prefix ++ z) s.parts
+        ∙ sym (append_assoc prefix s.before (s.refused ∷ s.after));
     begins = subst (λ (z : List TokenKind). Begins (Then Is Next) z)
-        (sym (kinds-append front s.before))
-        (moved Is Next some x (kinds_of front) (kinds_of s.before) wide s.begins);
+        (sym (kinds-append prefix s.before))
+        (moved Is Next some x (kinds_of prefix) (kinds_of s.before) wide s.begins);
     stands = λ other. rw (
-      append_assoc front s.before (s.refused ∷ other),
-      one.only x front (s.before ++ (s.refused ∷ other)) (before other),
+      append_assoc prefix s.before (s.refused ∷ other),
+      one.only x prefix (s.before ++ (s.refused ∷ other)) (before other),
     ) (s.stands other);
-    place = place_second x front s.before s.refused r (before []) s.place;
+    place = place_second x prefix s.before s.refused r (before []) s.place;
+    cause = why_map _ _ _ _ _ _ goes
+        (λ full other. refuses_second x prefix s.before other
+        (full_after x prefix s.before s.refused (before []) full other) (full other))
+        s.refused.kind r.why
+        (λ j a stuck u other e. refuses_second x prefix s.before (u ∷ other)
+        (alike_after x prefix s.before s.refused (before []) j a u other e) (stuck u other e))
+        s.cause;
   }
     where
-      wide : Is x (kinds_of front)
-      wide = one.wider x (kinds_of front) (next_of us) w
+      wide : Is x (kinds_of prefix)
+      wide = one.wider x (kinds_of prefix) (next_of us) w
+
+      goes : (k : TokenKind) → Begins (Next x) (kinds_of s.before ++ (k ∷ []))
+          → Begins (Then Is Next) (kinds_of (prefix ++ s.before) ++ (k ∷ []))
+      goes k begun =
+          subst (λ (z : List TokenKind). Begins (Then Is Next) z)
+          (sym (append_assoc (kinds_of prefix) (kinds_of s.before) (k ∷ []))
+          ∙ ap (λ (z : List TokenKind). z ++ (k ∷ [])) (sym (kinds-append prefix s.before)))
+          (moved Is Next some x (kinds_of prefix) (kinds_of s.before ++ (k ∷ [])) wide begun)
 
       before : (other : List Token)
-          → In x (kinds_of front) (next_of (s.before ++ (s.refused ∷ other)))
+          → In x (kinds_of prefix) (next_of (s.before ++ (s.refused ∷ other)))
       before other =
-          subst (λ (z : Option TokenKind). In x (kinds_of front) z)
+          subst (λ (z : Option TokenKind). In x (kinds_of prefix) z)
           (ap (λ (z : List Token). next_of z) s.parts
           ∙ next-same s.before s.refused s.after other) w
 
@@ -190,28 +280,41 @@ module _ {A B : Type 0} (Is : Grammar A) (In : GrammarBefore A) (Next : A → Gr
   pub reads_in_turn : IsReader (Then Is Next) (ThenBefore In NextIn) Where (in_turn read next)
   reads_in_turn = record {
     found = λ ts y rest e. found_both ts y rest (read ts) refl e;
-    only = λ y front rest is. only_both y (kinds_of front) (next_of rest) is front rest refl refl;
+    only = λ y prefix rest is. only_both y (kinds_of prefix) (next_of rest) is prefix rest refl
+        refl;
     wider = wider_both;
+    alike = λ y ks k j a is. alike_both y ks (Some k) is k j a refl;
     unended = unended_both;
     first = λ ts r h e. first_by ts r (read ts) h refl e;
   }
 
 -- ---- the same, where a refusal's place is at its token
 
-pub moves : (front before : List Token) (t : Token) (r : Refusal) → AtToken before t r
-    → AtToken (front ++ before) t r
-moves front before t r (there e) = there e
-moves front before t r (inside e) = inside e
+pub moves : (prefix before : List Token) (t : Token) (r : Refusal) → AtToken before t r
+    → AtToken (prefix ++ before) t r
+moves prefix before t r (there e) = there e
+moves prefix before t r (inside e) = inside e
 
-pub turns : {A B : Type 0} (Is : Grammar A) (In : GrammarBefore A) (Next : A → Grammar B)
+pub turns_if : {A B : Type 0} (Is : Grammar A) (In : GrammarBefore A) (Next : A → Grammar B)
     (NextIn : A → GrammarBefore B) (read : Reads A) (next : A → Reads B)
     → IsReader Is In AtToken read
     → ((x : A) (ks : List TokenKind) → Is x ks → IsReader (Next x) (NextIn x) AtToken (next x))
-    → ((x : A) (ks : List TokenKind) → Is x ks → Begins (Next x) [])
+    → ((x : A) (ks : List TokenKind) → Is x ks → Begins (Next x) []) → Continues In next
     → IsReader (Then Is Next) (ThenBefore In NextIn) AtToken (in_turn read next)
-turns Is In Next NextIn read next one two some =
-    reads_in_turn Is In Next NextIn AtToken (λ x. AtToken) AtToken read next one two some
-    (λ before t r p. p) (λ x front before t r w p. moves front before t r p)
+turns_if Is In Next NextIn read next one two some goes_on =
+    reads_in_turn Is In Next NextIn AtToken (λ x. AtToken) AtToken read next one two some goes_on
+    (λ before t r p. p) (λ x prefix before t r w p. moves prefix before t r p)
+
+-- and where anything may follow the first sentence
+pub turns : {A B : Type 0} (Is Within : Grammar A) (Next : A → Grammar B)
+    (NextIn : A → GrammarBefore B) (read : Reads A) (next : A → Reads B)
+    → IsReader Is (Anywhere Within) AtToken read
+    → ((x : A) (ks : List TokenKind) → Is x ks → IsReader (Next x) (NextIn x) AtToken (next x))
+    → ((x : A) (ks : List TokenKind) → Is x ks → Begins (Next x) [])
+    → IsReader (Then Is Next) (ThenBefore (Anywhere Within) NextIn) AtToken (in_turn read next)
+turns Is Within Next NextIn read next one two some =
+    turns_if Is (Anywhere Within) Next NextIn read next one two some
+    (λ x ks h is. inl (λ j. is))
 
 -- ---- other words for the same language, and for the same refusals
 
@@ -229,6 +332,9 @@ module _ {A B : Type 0} (Is Is2 : Grammar A) (Where Where2 : Refusals)
     begins = (s.begins.0, s.begins.1, to s.begins.0 (kinds_of s.before ++ s.begins.1) s.begins.2);
     stands = s.stands;
     place = place s.before s.refused r s.place;
+    cause = why_map _ _ _ _ _ _
+        (λ k goes. (goes.0, goes.1, to goes.0 ((kinds_of s.before ++ (k ∷ [])) ++ goes.1) goes.2))
+        (λ full. full) s.refused.kind r.why (λ j a stuck. stuck) s.cause;
   }
 
 pub reworded : {A : Type 0} (Is Is2 : Grammar A) (In In2 : GrammarBefore A) (Where : Refusals)
@@ -242,8 +348,9 @@ reworded {A} Is Is2 In In2 Where read one to unended within back = record {
   found = λ ts x rest e.
       let f = one.found ts x rest e in
       (f.0, within x (kinds_of f.0) (next_of rest) f.1, f.2);
-  only = λ x front rest is. one.only x front rest (back x (kinds_of front) (next_of rest) is);
+  only = λ x prefix rest is. one.only x prefix rest (back x (kinds_of prefix) (next_of rest) is);
   wider = λ x ks h is. to x ks (one.wider x ks h (back x ks h is));
+  alike = λ x ks k j a is. within x ks (Some j) (one.alike x ks k j a (back x ks (Some k) is));
   unended = unended;
   first = λ ts r h e. refused_as_well Is Is2 Where Where to (λ before t r p. p) read ts r
       (one.first ts r h e);
@@ -257,7 +364,53 @@ replaced Is In Where Where2 read one place = record {
   found = one.found;
   only = one.only;
   wider = one.wider;
+  alike = one.alike;
   unended = one.unended;
   first = λ ts r h e. refused_as_well Is Is Where Where2 (λ x ks is. is) place read ts r
       (one.first ts r h e);
 }
+
+-- ---- the law on first places
+
+module _ {A B : Type 0} (Within : Grammar A) (read : List Token → Result B Refusal)
+    (barred : (before : List Token) → ((other : List Token) → Refuses read (before ++ other))
+    → Begins Within (kinds_of before) → ⊥) where
+  -- where a token of a kind is refused whatever follows, nothing goes on with that kind
+  pub barred_with : (before : List Token) (j : TokenKind)
+      → ((u : Token) (other : List Token) → u.kind ≡ j → Refuses read (before ++ (u ∷ other)))
+      → Begins Within (kinds_of before ++ (j ∷ [])) → ⊥
+  barred_with before j refuses begun =
+      let u : Token = record { at = 0; kind = j } in
+      barred (before ++ (u ∷ []))
+      (λ other. subst (λ (z : List Token). Refuses read z)
+      (sym (append_assoc before (u ∷ []) other)) (refuses u other refl))
+      (subst (λ (z : List TokenKind). Begins Within z) (sym (kinds-append before (u ∷ []))) begun)
+
+  -- and nothing goes on with a token that is refused
+  pub barred_at : (r : Refusal) (before : List Token) (refused : Token)
+      → ((other : List Token) → read (before ++ (refused ∷ other)) ≡ Err r)
+      → Begins Within (kinds_of (before ++ (refused ∷ []))) → ⊥
+  barred_at r before refused stands =
+      barred (before ++ (refused ∷ []))
+      (λ other. (
+        r,
+        ap (λ (z : List Token). read z) (append_assoc before (refused ∷ []) other)
+            ∙ stands other,
+      ))
+
+  pub first_place : (Is : Grammar A) (Where Where2 : Refusals)
+      → ((before : List Token) (t : Token) (r : Refusal) → Where before t r → Where2 before t r)
+      → (ts : List Token) (r : Refusal) → RefusedAt Is Where read ts r
+      → FirstPlace Is Within Where2 read ts r
+  first_place Is Where Where2 place ts r s = record {
+    before = s.before;
+    refused = s.refused;
+    after = s.after;
+    parts = s.parts;
+    begins = s.begins;
+    ends = barred_at r s.before s.refused s.stands;
+    stands = s.stands;
+    place = place s.before s.refused r s.place;
+    cause = why_map _ _ _ _ _ _ (λ k on. on) (λ full. barred s.before full) s.refused.kind r.why
+        (λ j a stuck. barred_with s.before j stuck) s.cause;
+  }

@@ -1,14 +1,17 @@
 -- A repetition under a limit.
-use Rattle.std.proofs.Common.{◌≡◌, ℕ, zero, suc, Bool, true, false, List, [], ◌∷◌, ◌++◌, Option, refl, sym, subst}
+use Rattle.std.proofs.Common.{◌≡◌, ℕ, zero, suc, Bool, true, false, List, [], ◌∷◌, ◌++◌, Option}
+use Rattle.std.proofs.Common.{Ok, refl, sym, subst, ◌⊎◌, inl, inr}
 use Rattle.std.proofs.lemmas.List.{append-nil}
 use Rattle.pipes_token.specs.declared.refusal.Refusal.{Refusal}
 use Rattle.pipes_token.specs.declared.token.TokenKind.{TokenKind}
 use Rattle.pipes_token.specs.declared.token.Token.{Token}
 use Rattle.pipes_reader.specs.Reading.{Reads, kinds_of, followed, many_within}
-use Rattle.pipes_reader.specs.Sentences.{Grammar, GrammarBefore, Anywhere, Begins, next_of, ahead, has_last}
+use Rattle.pipes_reader.specs.Sentences.{Grammar, GrammarBefore, Anywhere, Begins, next_of, ahead}
+use Rattle.pipes_reader.specs.Sentences.{has_last}
 use Rattle.pipes_reader.specs.Places.{Refusals, AtToken}
 use Rattle.pipes_reader.proofs.TokenLists.{both_unended}
-use Rattle.pipes_reader.proofs.Readers.{IsReader, Then, both, ThenBefore, turn, reads_in_turn, reworded, moves}
+use Rattle.pipes_reader.proofs.Readers.{IsReader, Then, both, ThenBefore, turn, reads_in_turn}
+use Rattle.pipes_reader.proofs.Readers.{IsFree, ReadsSome, reworded, moves}
 use Rattle.pipes_reader.proofs.Singles.{Pure, pure, none_by}
 
 -- steps, each from the state that the one before has made, without a limit; a step says whether
@@ -100,6 +103,14 @@ module _ {S : Type 0} (Step : S → GrammarBefore (S × Bool)) (Over : S → Gra
 
 -- ---- their reader
 
+-- After each step that another follows anything may follow, or the steps after it don't refuse
+-- everything.
+abbrev pub StepsOn : {S : Type 0} → (S → GrammarBefore (S × Bool)) → (S → Reads (S × Bool))
+    → (S → Reads S) → Type 0
+StepsOn {S} StepIn step over_read = (left : ℕ) (s s2 : S) (ks : List TokenKind)
+    (h : Option TokenKind) → StepIn s (s2, true) ks h
+    → IsFree (StepIn s) (s2, true) ks ⊎ ReadsSome (many_within left step over_read s2)
+
 module _ {S : Type 0} (Step : S → Grammar (S × Bool)) (StepIn : S → GrammarBefore (S × Bool))
     (Over : S → GrammarBefore S) (step : S → Reads (S × Bool)) (over_read : S → Reads S)
     (StepWhere Where : S → Refusals)
@@ -108,14 +119,15 @@ module _ {S : Type 0} (Step : S → Grammar (S × Bool)) (StepIn : S → Grammar
     (some : (s : S) → Begins (Many Step s) [])
     (place_step : (s : S) (before : List Token) (t : Token) (r : Refusal) → StepWhere s before t r
     → Where s before t r)
-    (place_rest : (s s2 : S) (front before : List Token) (t : Token) (r : Refusal)
-    → StepIn s (s2, true) (kinds_of front) (next_of (before ++ (t ∷ []))) → Where s2 before t r
-    → Where s (front ++ before) t r) where
-  place_goes : (s : S) (o : S × Bool) (front before : List Token) (t : Token) (r : Refusal)
-      → StepIn s o (kinds_of front) (next_of (before ++ (t ∷ []))) → GoesPlace Where o before t r
-      → Where s (front ++ before) t r
-  place_goes s (s2, true) front before t r is place = place_rest s s2 front before t r is place
-  place_goes s (s2, false) front before t r is place = absurd place
+    (place_rest : (s s2 : S) (prefix before : List Token) (t : Token) (r : Refusal)
+    → StepIn s (s2, true) (kinds_of prefix) (next_of (before ++ (t ∷ []))) → Where s2 before t r
+    → Where s (prefix ++ before) t r)
+    (steps_on : StepsOn StepIn step over_read) where
+  place_goes : (s : S) (o : S × Bool) (prefix before : List Token) (t : Token) (r : Refusal)
+      → StepIn s o (kinds_of prefix) (next_of (before ++ (t ∷ []))) → GoesPlace Where o before t r
+      → Where s (prefix ++ before) t r
+  place_goes s (s2, true) prefix before t r is place = place_rest s s2 prefix before t r is place
+  place_goes s (s2, false) prefix before t r is place = absurd place
 
   goes_on : (o : S × Bool) (Others : S → Grammar S) (OthersIn : S → GrammarBefore S)
       (others : S → Reads S)
@@ -124,6 +136,13 @@ module _ {S : Type 0} (Step : S → Grammar (S × Bool)) (StepIn : S → Grammar
       (followed o.1 o.0 (others o.0))
   goes_on (s, true) Others OthersIn others reads = reads s
   goes_on (s, false) Others OthersIn others reads = none_by (λ before t r. ⊥) s
+
+  continues : (left : ℕ) (s : S) (o : S × Bool) (ks : List TokenKind) (h : Option TokenKind)
+      → StepIn s o ks h
+      → IsFree (StepIn s) o ks
+      ⊎ ReadsSome (followed o.1 o.0 (many_within left step over_read o.0))
+  continues left s (s2, true) ks h is = steps_on left s s2 ks h is
+  continues left s (s2, false) ks h is = inr ([], s2, [], refl)
 
   reads_zero : (s : S)
       → IsReader (Many Step s) (ManyBefore StepIn Over 0 s) (Where s)
@@ -151,8 +170,8 @@ module _ {S : Type 0} (Step : S → Grammar (S × Bool)) (StepIn : S → Grammar
       (λ o. followed o.1 o.0 (many_within left step over_read o.0)) (steps s)
       (λ o ks is. goes_on o (Many Step) (ManyBefore StepIn Over left)
       (λ z. many_within left step over_read z) others)
-      (λ o ks is. some_goes Step some o) (place_step s)
-      (λ o front before t r is place. place_goes s o front before t r is place))
+      (λ o ks is. some_goes Step some o) (continues left s) (place_step s)
+      (λ o prefix before t r is place. place_goes s o prefix before t r is place))
       (gathered Step s) (overs s).unended (within StepIn Over left s)
       (λ x ks h is. apart StepIn Over (suc left) left s x ks h is refl)
 
@@ -168,10 +187,10 @@ pub reads_many : {S : Type 0} (Step : S → Grammar (S × Bool))
     (Over : S → GrammarBefore S) (step : S → Reads (S × Bool)) (over_read : S → Reads S)
     → ((s : S) → IsReader (Step s) (StepIn s) AtToken (step s))
     → ((s : S) → IsReader (Many Step s) (Over s) AtToken (over_read s))
-    → ((s : S) → Begins (Many Step s) [])
+    → ((s : S) → Begins (Many Step s) []) → StepsOn StepIn step over_read
     → (left : ℕ) (s : S)
     → IsReader (Many Step s) (ManyBefore StepIn Over left s) AtToken
     (many_within left step over_read s)
-reads_many Step StepIn Over step over_read steps overs some =
+reads_many Step StepIn Over step over_read steps overs some steps_on =
     many_by Step StepIn Over step over_read (λ s. AtToken) (λ s. AtToken) steps overs some
-    (λ s before t r p. p) (λ s s2 front before t r is p. moves front before t r p)
+    (λ s before t r p. p) (λ s s2 prefix before t r is p. moves prefix before t r p) steps_on

@@ -1,5 +1,6 @@
 -- Readers of one token or of none, and tails that the next token decides.
-use Rattle.std.proofs.Common.{◌≡◌, ℕ, Bool, true, false, ◌||◌, List, [], ◌∷◌, ◌++◌, Option, Some, None, Result, Ok, Err, refl, sym, ap, subst, ◌∙◌, ◌⊎◌, inl, inr}
+use Rattle.std.proofs.Common.{◌≡◌, ℕ, Bool, true, false, ◌||◌, List, [], ◌∷◌, ◌++◌, Option, Some}
+use Rattle.std.proofs.Common.{None, Result, Ok, Err, refl, sym, ap, subst, ◌∙◌, ◌⊎◌, inl, inr}
 use Rattle.std.proofs.lemmas.List.{append-nil}
 use Rattle.pipes_token.specs.declared.refusal.Refusal.{Refusal}
 use Rattle.pipes_token.specs.declared.token.TokenKind.{TokenKind}
@@ -7,11 +8,18 @@ use Rattle.pipes_token.specs.declared.token.TokenKind.TheVariants.{Long, Cut, By
 use Rattle.pipes_token.specs.declared.token.Token.{Token}
 use Rattle.pipes_token.specs.Tokens.{is_last}
 use Rattle.pipes_token.specs.declared.refusal.TextWhy.TheVariants as why
-use Rattle.pipes_reader.specs.Reading.{Reads, kinds_of, refusal, refused_by, run_out, refused_as, too_many, done_with, taken_or, take_by, in_turn, taken_if, optional, tail_of, with_tail, barred, unless}
-use Rattle.pipes_reader.specs.Sentences.{Grammar, GrammarBefore, Anywhere, Begins, next_of, ahead, Prefix, has_last}
+use Rattle.pipes_reader.specs.Reading.{Reads, kinds_of, refusal, refused_by, run_out, refused_as}
+use Rattle.pipes_reader.specs.Reading.{too_many, done_with, taken_or, take_by, in_turn, taken_if}
+use Rattle.pipes_reader.specs.Reading.{optional, tail_of, with_tail, barred, unless}
+use Rattle.pipes_reader.specs.Sentences.{Grammar, GrammarBefore, Anywhere, Begins, next_of, ahead}
+use Rattle.pipes_reader.specs.Sentences.{Prefix, has_last}
+use Rattle.pipes_reader.specs.Causes.{AreAlike, IsLimit, IsWhy, own, over_limit}
 use Rattle.pipes_reader.specs.Places.{Refusals, AtToken, there, inside}
-use Rattle.pipes_reader.proofs.TokenLists.{uncons, none}
-use Rattle.pipes_reader.proofs.Readers.{IsReader, RefusedAt, Then, both, ThenBefore, turn, turns, reworded}
+use Rattle.pipes_reader.proofs.Causes.{why_map, Refuses, CauseOf, HasValue, NoValue, LeafWhy}
+use Rattle.pipes_reader.proofs.Causes.{IsSteady, steady_why}
+use Rattle.pipes_reader.proofs.TokenLists.{uncons, none, next-append, next-same}
+use Rattle.pipes_reader.proofs.Readers.{IsReader, RefusedAt, Then, both, ThenBefore, turn, IsFree}
+use Rattle.pipes_reader.proofs.Readers.{ReadsSome, turns_if, reworded}
 
 abbrev well : {A : Type 0} → A × List Token → Result (A × List Token) Refusal
 well p = Ok p
@@ -28,8 +36,9 @@ pub none_by : {A : Type 0} (Where : Refusals) (x : A)
     → IsReader (Pure x) (Anywhere (Pure x)) Where (done_with x)
 none_by {A} Where x = record {
   found = λ ts y rest e. found ts y rest e;
-  only = λ y front rest is. only y (kinds_of front) is front rest refl;
+  only = λ y prefix rest is. only y (kinds_of prefix) is prefix rest refl;
   wider = λ y ks h is. is;
+  alike = λ y ks k j a is. is;
   unended = unended;
   first = λ ts r h e. absurd (differ ts r e);
 }
@@ -48,10 +57,10 @@ none_by {A} Where x = record {
         let left : ts ≡ rest = ap (λ (p : A × List Token). p.1) pair in
         ([], subst (λ (z : A). Pure x z []) same pure, left)
 
-    only : (y : A) (ks : List TokenKind) → Pure x y ks → (front rest : List Token)
-        → ks ≡ kinds_of front
-        → done_with x (front ++ rest) ≡ Ok (y, rest)
-    only _ _ pure front rest e = rw (none front e) refl
+    only : (y : A) (ks : List TokenKind) → Pure x y ks → (prefix rest : List Token)
+        → ks ≡ kinds_of prefix
+        → done_with x (prefix ++ rest) ≡ Ok (y, rest)
+    only _ _ pure prefix rest e = rw (none prefix e) refl
 
 pub reads_none : {A : Type 0} (x : A) → IsReader (Pure x) (Anywhere (Pure x)) AtToken (done_with x)
 reads_none x = none_by AtToken x
@@ -70,19 +79,29 @@ abbrev pub Refusing : {A : Type 0} → Refusals → (TokenKind → Option A)
     → (TokenKind → ℕ → Refusal) → Type 0
 Refusing Where value refused = (t : Token) → value t.kind ≡ None → Where [] t (refused t.kind t.at)
 
+-- a refusal's cause is the grammar's
+abbrev pub HasCauses : {A : Type 0} → (TokenKind → Option A) → (TokenKind → ℕ → Refusal) → Type 0
+HasCauses value refused = (k : TokenKind) (at : ℕ) → NoValue value k
+    → LeafWhy value k (refused k at).why
+
+pub plain_causes : {A : Type 0} (value : TokenKind → Option A) → IsSteady value
+    → HasCauses value refused_by
+plain_causes value steady k at is = steady_why value steady k at is
+
 pub one_unended : {A : Type 0} (value : TokenKind → Option A) → NotLast value → (x : A)
     (ks : List TokenKind) → One value x ks → has_last ks ≡ false
 one_unended value last _ _ (one k x is) = ap (λ (b : Bool). b || false) (last k x is)
 
 pub one_by : {A : Type 0} (Where : Refusals) (value : TokenKind → Option A)
     (refused : TokenKind → ℕ → Refusal) → Begins (One value) [] → NotLast value
-    → Refusing Where value refused
+    → Refusing Where value refused → HasCauses value refused
     → IsReader (One value) (Anywhere (One value)) Where (take_by value refused)
 unfolding take_by
-one_by {A} Where value refused some last placed = record {
+one_by {A} Where value refused some last placed causes = record {
   found = found;
-  only = λ x front rest is. only x (kinds_of front) is front rest refl;
+  only = λ x prefix rest is. only x (kinds_of prefix) is prefix rest refl;
   wider = λ x ks h is. is;
+  alike = λ x ks k j a is. is;
   unended = one_unended value last;
   first = first;
 }
@@ -105,12 +124,19 @@ one_by {A} Where value refused some last placed = record {
     found [] x rest e = absurd cc
     found (t ∷ ts) x rest e = found_by t ts (value t.kind) x rest refl e
 
-    only : (x : A) (ks : List TokenKind) → One value x ks → (front rest : List Token)
-        → ks ≡ kinds_of front → take_by value refused (front ++ rest) ≡ Ok (x, rest)
-    only _ _ (one k x is) front rest e =
-        let c = uncons k [] front e in
+    only : (x : A) (ks : List TokenKind) → One value x ks → (prefix rest : List Token)
+        → ks ≡ kinds_of prefix → take_by value refused (prefix ++ rest) ≡ Ok (x, rest)
+    only _ _ (one k x is) prefix rest e =
+        let c = uncons k [] prefix e in
         let nothing = none c.tail c.tail_kinds in
         rw (c.parts, nothing, c.head_kind, is) refl
+
+    begun : (k : TokenKind) → HasValue value k → Begins (One value) (k ∷ [])
+    begun k (x, e) = (x, [], one k x e)
+
+    refuses : (u : Token) (other : List Token) → value u.kind ≡ None
+        → Refuses (take_by value refused) (u ∷ other)
+    refuses u other e = (refused u.kind u.at, rw e refl)
 
     first_by : (t : Token) (ts : List Token) (o : Option A) (r : Refusal) → value t.kind ≡ o
         → taken_or o (refused t.kind t.at) ts ≡ Err r
@@ -126,6 +152,11 @@ one_by {A} Where value refused some last placed = record {
           begins = some;
           stands = λ other. rw is (ap (λ (z : Refusal). Err z) same);
           place = subst (λ (z : Refusal). Where [] t z) same (placed t is);
+          cause = subst (λ (z : Refusal). CauseOf (One value) (take_by value refused) [] t.kind
+              z.why)
+              same
+              (why_map _ _ _ _ _ _ begun (λ no. absurd no) t.kind (refused t.kind t.at).why
+              (λ j a e u other f. refuses u other (ap value f ∙ e)) (causes t.kind t.at is));
         }
 
     first : (ts : List Token) (r : Refusal) → has_last (kinds_of ts) ≡ true
@@ -144,11 +175,11 @@ placed_at t r (inl h) = there h
 placed_at t r (inr h) = inside h
 
 pub reads_one : {A : Type 0} (value : TokenKind → Option A) (refused : TokenKind → ℕ → Refusal)
-    → Begins (One value) [] → NotLast value → Placed value refused
+    → Begins (One value) [] → NotLast value → Placed value refused → HasCauses value refused
     → IsReader (One value) (Anywhere (One value)) AtToken (take_by value refused)
-reads_one value refused some last placed =
+reads_one value refused some last placed causes =
     one_by AtToken value refused some last
-    (λ t is. placed_at t (refused t.kind t.at) (placed t.kind t.at is))
+    (λ t is. placed_at t (refused t.kind t.at) (placed t.kind t.at is)) causes
 
 -- a token that the grammar doesn't allow is refused at its place
 pub refused_place : (k : TokenKind) (at : ℕ) → (refused_by k at).at ≡ at
@@ -159,6 +190,13 @@ refused_place _ at = refl
 
 pub plainly : {A : Type 0} (value : TokenKind → Option A) → Placed value refused_by
 plainly value k at is = inl (refused_place k at)
+
+-- one token, where others are refused as such
+pub reads_plain : {A : Type 0} (value : TokenKind → Option A) → Begins (One value) []
+    → NotLast value → IsSteady value
+    → IsReader (One value) (Anywhere (One value)) AtToken (take_by value refused_by)
+reads_plain value some last steady =
+    reads_one value refused_by some last (plainly value) (plain_causes value steady)
 
 -- ---- a value made of the one that is read
 
@@ -217,8 +255,9 @@ pub reads_mapped : {A B : Type 0} (f : A → B) (Is : Grammar A) (In : GrammarBe
     → IsReader (Mapped f Is) (MappedBefore f In) AtToken (in_turn read (λ x. done_with (f x)))
 reads_mapped f Is In read reads =
     mapped_by f Is In AtToken read reads
-    (turns Is In (λ x. Pure (f x)) (λ x. Anywhere (Pure (f x))) read (λ x. done_with (f x)) reads
-    (λ x ks is. reads_none (f x)) (λ x ks is. (f x, [], pure)))
+    (turns_if Is In (λ x. Pure (f x)) (λ x. Anywhere (Pure (f x))) read (λ x. done_with (f x))
+    reads (λ x ks is. reads_none (f x)) (λ x ks is. (f x, [], pure))
+    (λ x ks h is. inr ([], f x, [], refl)))
 
 -- ---- a token or none, as the next one decides
 
@@ -240,12 +279,13 @@ pub data OptionalBefore {A : Type 0} (value : TokenKind → Option A)
   absent_before : (h : Option TokenKind) → NotNext value h → OptionalBefore value None [] h
 
 pub optional_by : {A : Type 0} (Where : Refusals) (value : TokenKind → Option A) → NotLast value
-    → IsReader (Optional value) (OptionalBefore value) Where (optional value)
+    → IsSteady value → IsReader (Optional value) (OptionalBefore value) Where (optional value)
 unfolding optional
-optional_by {A} Where value last = record {
+optional_by {A} Where value last steady = record {
   found = found;
-  only = λ x front rest is. only x (kinds_of front) (next_of rest) is front rest refl refl;
+  only = λ x prefix rest is. only x (kinds_of prefix) (next_of rest) is prefix rest refl refl;
   wider = wider;
+  alike = λ x ks k j a is. alike x ks (Some k) is k j a refl;
   unended = unended;
   first = λ ts r h e. absurd (never ts r e);
 }
@@ -288,19 +328,27 @@ optional_by {A} Where value last = record {
     left_as_is h is (t ∷ ts) e = rw (subst (λ (z : Option TokenKind). NotNext value z) e is) refl
 
     only : (x : Option A) (ks : List TokenKind) (h : Option TokenKind) → OptionalBefore value x ks h
-        → (front rest : List Token) → ks ≡ kinds_of front → h ≡ next_of rest
-        → optional value (front ++ rest) ≡ Ok (x, rest)
-    only _ _ _ (given_before k x h is) front rest e f =
-        let c = uncons k [] front e in
+        → (prefix rest : List Token) → ks ≡ kinds_of prefix → h ≡ next_of rest
+        → optional value (prefix ++ rest) ≡ Ok (x, rest)
+    only _ _ _ (given_before k x h is) prefix rest e f =
+        let c = uncons k [] prefix e in
         let nothing = none c.tail c.tail_kinds in
         rw (c.parts, nothing, c.head_kind, is) refl
-    only _ _ _ (absent_before h is) front rest e f = rw (none front e) (left_as_is h is rest f)
+    only _ _ _ (absent_before h is) prefix rest e f = rw (none prefix e) (left_as_is h is rest f)
 
     wider : (x : Option A) (ks : List TokenKind) (h : Option TokenKind)
         → OptionalBefore value x ks h
         → Optional value x ks
     wider _ _ _ (given_before k x h is) = given k x is
     wider _ _ _ (absent_before h is) = absent
+
+    alike : (x : Option A) (ks : List TokenKind) (h : Option TokenKind)
+        → OptionalBefore value x ks h → (k j : TokenKind) → AreAlike k j → h ≡ Some k
+        → OptionalBefore value x ks (Some j)
+    alike _ _ _ (given_before l x h is) k j a e = given_before l x (Some j) is
+    alike _ _ _ (absent_before h is) k j a e =
+        absent_before (Some j)
+        (steady k j a (subst (λ (z : Option TokenKind). NotNext value z) e is))
 
     unended : (x : Option A) (ks : List TokenKind) → Optional value x ks → has_last ks ≡ false
     unended _ _ (given k x is) = ap (λ (b : Bool). b || false) (last k x is)
@@ -327,7 +375,7 @@ TailBefore Tail v None = Anywhere (Pure v)
 
 module _ {A B : Type 0} (value : TokenKind → Option A) (Tail : A → Grammar B)
     (In : A → GrammarBefore B)
-    (tail : A → Reads B) (v : B) (last : NotLast value)
+    (tail : A → Reads B) (v : B) (last : NotLast value) (steady : IsSteady value)
     (reads : (x : A) → IsReader (Tail x) (In x) AtToken (tail x))
     (some : (x : A) → Begins (Tail x) []) where
   two : (o : Option A) → IsReader (TailIs Tail v o) (TailBefore In v o) AtToken (tail_of tail v o)
@@ -338,93 +386,150 @@ module _ {A B : Type 0} (value : TokenKind → Option A) (Tail : A → Grammar B
   some_tail (Some x) = some x
   some_tail None = (v, [], pure)
 
+  goes_on : (o : Option A) (ks : List TokenKind) (h : Option TokenKind)
+      → OptionalBefore value o ks h
+      → IsFree (OptionalBefore value) o ks ⊎ ReadsSome (tail_of tail v o)
+  goes_on _ _ _ (given_before k x h is) = inl (λ j. given_before k x j is)
+  goes_on _ _ _ (absent_before h is) = inr ([], v, [], refl)
+
   pub reads_tail : IsReader (Then (Optional value) (TailIs Tail v))
       (ThenBefore (OptionalBefore value) (TailBefore In v)) AtToken (with_tail value tail v)
   reads_tail =
-      turns (Optional value) (OptionalBefore value) (TailIs Tail v) (TailBefore In v)
-      (optional value)
-      (tail_of tail v) (optional_by AtToken value last) (λ o ks is. two o) (λ o ks is. some_tail o)
+      turns_if (Optional value) (OptionalBefore value) (TailIs Tail v) (TailBefore In v)
+      (optional value) (tail_of tail v) (optional_by AtToken value last steady) (λ o ks is. two o)
+      (λ o ks is. some_tail o) goes_on
 
--- ---- a value, unless the next token begins one too many
+-- ---- a reader that no token of a value may come first of
 
-pub data PureBefore {A B : Type 0} (value : TokenKind → Option A) (v : B)
-    : B → List TokenKind → Option TokenKind → Type 0 where
-  pure_before : (h : Option TokenKind) → NotNext value h → PureBefore value v v [] h
+-- no sentence that begins with a token of a value
+abbrev pub Guarded : {A B : Type 0} → (TokenKind → Option A) → GrammarBefore B → GrammarBefore B
+Guarded value In x ks h = In x ks h × NotNext value (ahead ks h)
 
--- Is: what could go on here without the limit
-pub unless_by : {A B : Type 0} (Where : Refusals) (Is : Grammar B) (value : TokenKind → Option A)
-    (refused : TokenKind → ℕ → Refusal) (v : B) → Is v []
-    → ((y : B) (ks : List TokenKind) → Is y ks → has_last ks ≡ false)
-    → ((t : Token) (x : A) → value t.kind ≡ Some x → Where [] t (refused t.kind t.at))
-    → IsReader Is (PureBefore value v) Where (unless value refused v)
-unfolding unless
-unless_by {A} {B} Where Is value refused v some unended placed = record {
-  found = found;
-  only = λ x front rest is. only x (kinds_of front) (next_of rest) is front rest refl refl;
-  wider = wider;
-  unended = unended;
-  first = first;
-}
-  where
-    held : (ts : List Token) (x : B) (rest : List Token) → done_with v ts ≡ Ok (x, rest)
-        → NotNext value (next_of ts) → Prefix (PureBefore value v) x ts rest
-    held ts x rest e is =
-        let pair = ok_is (v, ts) (x, rest) e in
-        let same : v ≡ x = ap (λ (p : B × List Token). p.0) pair in
-        let left : ts ≡ rest = ap (λ (p : B × List Token). p.1) pair in
-        let next = subst (λ (z : List Token). NotNext value (next_of z)) left is in (
-          [],
-          subst (λ (z : B). PureBefore value v z [] (next_of rest)) same
-              (pure_before (next_of rest) next),
-          left,
-        )
+module _ {A B : Type 0} (Is : Grammar B) (In : GrammarBefore B) (Where : Refusals)
+    (value : TokenKind → Option A) (refused : TokenKind → ℕ → Refusal) (next : Reads B)
+    (reads : IsReader Is In Where next) (steady : IsSteady value) (some : Begins Is [])
+    (placed : (t : Token) (x : A) → value t.kind ≡ Some x → Where [] t (refused t.kind t.at))
+    (limits : (k : TokenKind) (at : ℕ) (x : A) → value k ≡ Some x
+    → IsLimit (refused k at).why × Begins Is (k ∷ [])) where
+  abbrev passed : Reads (Unit {0})
+  passed = unless value refused tt
 
-    found_by : (t : Token) (ts : List Token) (o : Option A) (x : B) (rest : List Token)
-        → value t.kind ≡ o
-        → barred o (refused t.kind t.at) v t ts ≡ Ok (x, rest)
-        → Prefix (PureBefore value v) x (t ∷ ts) rest
-    found_by t ts (Some y) x rest is e = absurd cc
-    found_by t ts None x rest is e = held (t ∷ ts) x rest e is
+  abbrev pub guarded : Reads B
+  guarded = in_turn passed (λ done. next)
 
-    found : (ts : List Token) (x : B) (rest : List Token) → unless value refused v ts ≡ Ok (x, rest)
-        → Prefix (PureBefore value v) x ts rest
-    found [] x rest e = held [] x rest e tt
-    found (t ∷ ts) x rest e = found_by t ts (value t.kind) x rest refl e
+  free : (ts : List Token) → NotNext value (next_of ts) → guarded ts ≡ next ts
+  unfolding unless
+  free [] is = refl
+  free (t ∷ ts) is = rw is refl
 
-    left_as_is : (h : Option TokenKind) → NotNext value h → (rest : List Token) → h ≡ next_of rest
-        → unless value refused v rest ≡ Ok (v, rest)
-    left_as_is h is [] e = refl
-    left_as_is h is (t ∷ ts) e = rw (subst (λ (z : Option TokenKind). NotNext value z) e is) refl
+  bars : (t : Token) (ts : List Token) (x : A) → value t.kind ≡ Some x
+      → guarded (t ∷ ts) ≡ Err (refused t.kind t.at)
+  unfolding unless
+  bars t ts x is = rw is refl
 
-    only : (x : B) (ks : List TokenKind) (h : Option TokenKind) → PureBefore value v x ks h
-        → (front rest : List Token) → ks ≡ kinds_of front → h ≡ next_of rest
-        → unless value refused v (front ++ rest) ≡ Ok (x, rest)
-    only _ _ _ (pure_before h is) front rest e f = rw (none front e) (left_as_is h is rest f)
+  refuses_too : (us : List Token) → Refuses next us → Refuses guarded us
+  refuses_too [] (r, e) = (r, free [] tt ∙ e)
+  refuses_too (u ∷ us) (r, e) = by (value u.kind) refl
+    where
+      by : (o : Option A) → value u.kind ≡ o → Refuses guarded (u ∷ us)
+      by (Some x) is = (refused u.kind u.at, bars u us x is)
+      by None is = (r, free (u ∷ us) is ∙ e)
 
-    wider : (x : B) (ks : List TokenKind) (h : Option TokenKind) → PureBefore value v x ks h
-        → Is x ks
-    wider _ _ _ (pure_before h is) = some
+  found_free : (ts : List Token) (x : B) (rest : List Token) → NotNext value (next_of ts)
+      → guarded ts ≡ Ok (x, rest) → Prefix (Guarded value In) x ts rest
+  found_free ts x rest is e =
+      let f = reads.found ts x rest (sym (free ts is) ∙ e) in
+      let same : next_of ts ≡ ahead (kinds_of f.0) (next_of rest) =
+      ap (λ (z : List Token). next_of z) f.2 ∙ next-append f.0 rest in
+      (f.0, (f.1, subst (λ (h : Option TokenKind). NotNext value h) same is), f.2)
 
-    first_by : (t : Token) (ts : List Token) (o : Option A) (r : Refusal) → value t.kind ≡ o
-        → barred o (refused t.kind t.at) v t ts ≡ Err r
-        → RefusedAt Is Where (unless value refused v) (t ∷ ts) r
-    first_by t ts None r is e = absurd cc
-    first_by t ts (Some y) r is e =
-        let same : refused t.kind t.at ≡ r = cc in
-        record {
-          before = [];
-          refused = t;
-          after = ts;
-          parts = refl;
-          begins = (v, [], some);
-          stands = λ other. rw is (ap (λ (z : Refusal). Err z) same);
-          place = subst (λ (z : Refusal). Where [] t z) same (placed t y is);
-        }
+  guarded_found : (ts : List Token) (x : B) (rest : List Token) → guarded ts ≡ Ok (x, rest)
+      → Prefix (Guarded value In) x ts rest
+  guarded_found [] x rest e = found_free [] x rest tt e
+  guarded_found (t ∷ ts) x rest e = by (value t.kind) refl
+    where
+      differ : (r : Refusal) → guarded (t ∷ ts) ≡ Err r → ⊥
+      differ r f = cc
 
-    first : (ts : List Token) (r : Refusal) → has_last (kinds_of ts) ≡ true
-        → unless value refused v ts ≡ Err r → RefusedAt Is Where (unless value refused v) ts r
-    first [] r h e = absurd cc
-    first (t ∷ ts) r h e = first_by t ts (value t.kind) r refl e
+      by : (o : Option A) → value t.kind ≡ o → Prefix (Guarded value In) x (t ∷ ts) rest
+      by (Some y) is = absurd (differ (refused t.kind t.at) (bars t ts y is))
+      by None is = found_free (t ∷ ts) x rest is e
+
+  guarded_only : (x : B) (prefix rest : List Token)
+      → Guarded value In x (kinds_of prefix) (next_of rest) → guarded (prefix ++ rest) ≡ Ok
+      (x, rest)
+  guarded_only x prefix rest (is, next_is) =
+      free (prefix ++ rest)
+      (subst (λ (h : Option TokenKind). NotNext value h) (sym (next-append prefix rest)) next_is)
+      ∙ reads.only x prefix rest is
+
+  guarded_alike : (x : B) (ks : List TokenKind) (k j : TokenKind) → AreAlike k j
+      → Guarded value In x ks (Some k) → Guarded value In x ks (Some j)
+  guarded_alike x [] k j a (is, next_is) = (reads.alike x [] k j a is, steady k j a next_is)
+  guarded_alike x (l ∷ ls) k j a (is, next_is) = (reads.alike x (l ∷ ls) k j a is, next_is)
+
+  -- where the first token is none of a value's
+  first_free : (ts : List Token) (r : Refusal) → NotNext value (next_of ts)
+      → RefusedAt Is Where next ts r → RefusedAt Is Where guarded ts r
+  first_free ts r is s = record {
+    before = s.before;
+    refused = s.refused;
+    after = s.after;
+    parts = s.parts;
+    begins = s.begins;
+    stands = λ other. free (s.before ++ (s.refused ∷ other)) (still other) ∙ s.stands other;
+    place = s.place;
+    cause = why_map _ _ _ _ _ _ (λ k goes. goes)
+        (λ full other. refuses_too (s.before ++ other) (full other)) s.refused.kind r.why
+        (λ j a stuck u other e. refuses_too (s.before ++ (u ∷ other)) (stuck u other e)) s.cause;
+  }
+    where
+      still : (other : List Token) → NotNext value (next_of (s.before ++ (s.refused ∷ other)))
+      still other =
+          subst (λ (h : Option TokenKind). NotNext value h)
+          (ap (λ (z : List Token). next_of z) s.parts
+          ∙ next-same s.before s.refused s.after other) is
+
+  guarded_first : (ts : List Token) (r : Refusal) → has_last (kinds_of ts) ≡ true
+      → guarded ts ≡ Err r → RefusedAt Is Where guarded ts r
+  guarded_first [] r h e = absurd (no h)
+    where
+      no : false ≡ true → ⊥
+      no f = cc
+  guarded_first (t ∷ ts) r h e = by (value t.kind) refl
+    where
+      by : (o : Option A) → value t.kind ≡ o → RefusedAt Is Where guarded (t ∷ ts) r
+      by None is = first_free (t ∷ ts) r is (reads.first (t ∷ ts) r h (sym (free (t ∷ ts) is) ∙ e))
+      by (Some x) is =
+          let same : refused t.kind t.at ≡ r = refused_is (sym (bars t ts x is) ∙ e) in
+          let l = limits t.kind t.at x is in
+          record {
+            before = [];
+            refused = t;
+            after = ts;
+            parts = refl;
+            begins = some;
+            stands = λ other. bars t other x is ∙ ap (λ (z : Refusal). refusing z) same;
+            place = subst (λ (z : Refusal). Where [] t z) same (placed t x is);
+            cause = subst (λ (z : Refusal). CauseOf Is guarded [] t.kind z.why) same
+                (over_limit t.kind (refused t.kind t.at).why l.0 (inl l.1));
+          }
+        where
+          refusing : Refusal → Result (B × List Token) Refusal
+          refusing z = Err z
+
+          refused_is : {y z : Refusal} → refusing y ≡ refusing z → y ≡ z
+          refused_is f = cc
+
+  pub guarded_by : IsReader Is (Guarded value In) Where guarded
+  guarded_by = record {
+    found = guarded_found;
+    only = guarded_only;
+    wider = λ x ks h is. reads.wider x ks h is.0;
+    alike = guarded_alike;
+    unended = reads.unended;
+    first = guarded_first;
+  }
 
 -- ---- a reader that refuses whatever comes
 
@@ -438,19 +543,26 @@ failed r = Err r
 pub reads_never : {A : Type 0} (Is : Grammar A) → Begins Is []
     → ((x : A) (ks : List TokenKind) → Is x ks → has_last ks ≡ false)
     → (refused : TokenKind → ℕ → Refusal) → ((k : TokenKind) (at : ℕ) → (refused k at).at ≡ at)
+    → ((k : TokenKind) (at : ℕ) → IsWhy (λ j. Begins Is (j ∷ [])) (Unit {0}) (λ j. Unit {0}) k
+    (refused k at).why)
     → (read : Reads A) → read [] ≡ Err run_out
     → ((t : Token) (ts : List Token) → read (t ∷ ts) ≡ Err (refused t.kind t.at))
     → IsReader Is Nothing AtToken read
-reads_never {A} Is some ended refused placed read at_end refuses = record {
+reads_never {A} Is some ended refused placed causes read at_end refuses = record {
   found = found;
-  only = λ x front rest is. absurd is;
+  only = λ x prefix rest is. absurd is;
   wider = λ x ks h is. absurd is;
+  alike = λ x ks k j a is. absurd is;
   unended = ended;
   first = first;
 }
   where
     differ : (r : Refusal) (x : A) (rest : List Token) → failed {A = A} r ≡ well (x, rest) → ⊥
     differ r x rest e = cc
+
+    all : (ts : List Token) → Refuses read ts
+    all [] = (run_out, at_end)
+    all (t ∷ ts) = (refused t.kind t.at, refuses t ts)
 
     found : (ts : List Token) (x : A) (rest : List Token) → read ts ≡ Ok (x, rest)
         → Prefix Nothing x ts rest
@@ -470,6 +582,10 @@ reads_never {A} Is some ended refused placed read at_end refuses = record {
           begins = some;
           stands = λ other. refuses t other ∙ ap (λ (z : Refusal). failed {A = A} z) same;
           place = there (ap (λ (z : Refusal). z.at) (sym same) ∙ placed t.kind t.at);
+          cause = subst (λ (z : Refusal). CauseOf Is read [] t.kind z.why) same
+              (why_map _ _ _ _ _ _ (λ k goes. goes) (λ full. all) t.kind
+              (refused t.kind t.at).why (λ j a stuck u other e. all (u ∷ other))
+              (causes t.kind t.at));
         }
       where
         failed_is : {x y : Refusal} → failed {A = A} x ≡ failed {A = A} y → x ≡ y
@@ -485,9 +601,17 @@ many_place Byte at = refl
 many_place End at = refl
 many_place _ at = refl
 
+pub limit_causes : (G S : TokenKind → Type 0) (r : Refusal) → IsLimit r.why → (k : TokenKind)
+    (at : ℕ) → IsWhy G (Unit {0}) S k (refused_as r k at).why
+limit_causes G S r is Byte at = own Byte _ refl
+limit_causes G S r is End at = own End _ refl
+limit_causes G S r is k at = over_limit k r.why is (inr tt)
+
 pub reads_too_many : {A : Type 0} (Is : Grammar A) → Begins Is []
     → ((x : A) (ks : List TokenKind) → Is x ks → has_last ks ≡ false) → (read : Reads A)
     → ((ts : List Token) → read ts ≡ Err (too_many ts)) → IsReader Is Nothing AtToken read
 unfolding too_many
 reads_too_many Is some ended read refuses =
-    reads_never Is some ended many_refused many_place read (refuses []) (λ t ts. refuses (t ∷ ts))
+    reads_never Is some ended many_refused many_place
+    (λ k at. limit_causes _ _ (refusal at why.Many) tt k at) read (refuses [])
+    (λ t ts. refuses (t ∷ ts))

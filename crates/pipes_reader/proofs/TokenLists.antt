@@ -38,24 +38,24 @@ uncons k ks (t ∷ ts) e =
 
 -- tokens whose kinds are in two parts
 pub record Parts (ks ls : List TokenKind) (ts : List Token) : Type 0 where
-  pub front : List Token
+  pub prefix : List Token
   pub back : List Token
-  pub parts : ts ≡ front ++ back
-  pub front_kinds : ks ≡ kinds_of front
+  pub parts : ts ≡ prefix ++ back
+  pub prefix_kinds : ks ≡ kinds_of prefix
   pub back_kinds : ls ≡ kinds_of back
 
 pub split : (ks ls : List TokenKind) (ts : List Token) → ks ++ ls ≡ kinds_of ts → Parts ks ls ts
 split [] ls ts e =
-    record { front = []; back = ts; parts = refl; front_kinds = refl; back_kinds = e }
+    record { prefix = []; back = ts; parts = refl; prefix_kinds = refl; back_kinds = e }
 split (k ∷ ks) ls ts e =
     let c = uncons k (ks ++ ls) ts e in
     let p = split ks ls c.tail c.tail_kinds in
     record {
-      front = c.head ∷ p.front;
+      prefix = c.head ∷ p.prefix;
       back = p.back;
       parts = c.parts ∙ ap (λ (us : List Token). c.head ∷ us) p.parts;
-      front_kinds = ap (λ (h : TokenKind). h ∷ ks) (sym c.head_kind)
-          ∙ ap (λ (ls : List TokenKind). c.head.kind ∷ ls) p.front_kinds;
+      prefix_kinds = ap (λ (h : TokenKind). h ∷ ks) (sym c.head_kind)
+          ∙ ap (λ (ls : List TokenKind). c.head.kind ∷ ls) p.prefix_kinds;
       back_kinds = p.back_kinds;
     }
 
@@ -92,19 +92,19 @@ pub both_unended : (ks ls : List TokenKind) → has_last ks ≡ false → has_la
 both_unended ks ls e f = last-append ks ls ∙ ap (λ (b : Bool). b || has_last ls) e ∙ f
 
 -- a part of tokens without it
-pub front_unended : (ks ls : List TokenKind) → has_last (ks ++ ls) ≡ false → has_last ks ≡ false
-front_unended ks ls e = first_false (has_last ks) (has_last ls) (sym (last-append ks ls) ∙ e)
+pub prefix_unended : (ks ls : List TokenKind) → has_last (ks ++ ls) ≡ false → has_last ks ≡ false
+prefix_unended ks ls e = first_false (has_last ks) (has_last ls) (sym (last-append ks ls) ∙ e)
   where
     first_false : (a b : Bool) → (a || b) ≡ false → a ≡ false
     first_false true b e = absurd cc
     first_false false b e = refl
 
 -- it comes after a part without it
-pub last_after : (front us ts : List Token) → has_last (kinds_of front) ≡ false
-    → ts ≡ front ++ us → has_last (kinds_of ts) ≡ true → has_last (kinds_of us) ≡ true
-last_after front us ts unended parts h =
+pub last_after : (prefix us ts : List Token) → has_last (kinds_of prefix) ≡ false
+    → ts ≡ prefix ++ us → has_last (kinds_of ts) ≡ true → has_last (kinds_of us) ≡ true
+last_after prefix us ts unended parts h =
     ap (λ (b : Bool). b || has_last (kinds_of us)) (sym unended)
-    ∙ sym (last-append (kinds_of front) (kinds_of us))
-    ∙ ap (λ (ks : List TokenKind). has_last ks) (sym (kinds-append front us))
+    ∙ sym (last-append (kinds_of prefix) (kinds_of us))
+    ∙ ap (λ (ks : List TokenKind). has_last ks) (sym (kinds-append prefix us))
     ∙ ap (λ (z : List Token). has_last (kinds_of z)) (sym parts)
     ∙ h

@@ -1,18 +1,27 @@
 -- The readers of numbers, strings and names.
-use Rattle.std.proofs.Common.{◌≡◌, ℕ, ◌≤◌, Bool, true, false, cond, nat_le, ◌&&◌, List, [], ◌∷◌, Option, Some, None, refl, sym, ap, ◌∙◌, ◌⊎◌, inl, inr, arith}
+use Rattle.std.proofs.Common.{◌≡◌, ℕ, ◌≤◌, Bool, true, false, cond, nat_le, ◌&&◌, List, [], ◌∷◌}
+use Rattle.std.proofs.Common.{Option, Some, None, refl, sym, ap, ◌∙◌, ◌⊎◌, inl, inr, arith}
 use Rattle.std.proofs.lemmas.Bool.{le-leb, leb-true}
 use Rattle.pipes_token.specs.declared.refusal.Refusal.{Refusal}
 use Rattle.pipes_token.specs.declared.token.TokenKind.{TokenKind}
-use Rattle.pipes_token.specs.declared.token.TokenKind.TheVariants.{Sign, Keyword, Name, Number, Text, Long, Cut, Byte, End}
+use Rattle.pipes_token.specs.declared.token.TokenKind.TheVariants.{Sign, Keyword, Name, Number}
+use Rattle.pipes_token.specs.declared.token.TokenKind.TheVariants.{Text, Long, Cut, Byte, End}
 use Rattle.pipes_token.specs.Tokens.{is_last}
 use Rattle.pipes_reader.specs.Reading.{refused_by}
 use Rattle.pipes_reader.specs.Sentences.{Anywhere, Begins}
+use Rattle.pipes_reader.specs.Causes.{AreAlike, itself, two_numbers, two_names, IsWord, broken}
+use Rattle.pipes_reader.specs.Causes.{other_number, other_word}
 use Rattle.pipes_reader.specs.Places.{AtToken}
 use Rattle.pipes_reader.specs.Names.{is_taken}
-use Rattle.pipes_reader.specs.Taking.{number_between, number_refused, take_number, text_of, text_refused, take_text, unless_taken, name_refused, take_name}
+use Rattle.pipes_reader.specs.Taking.{number_between, number_refused, take_number, text_of}
+use Rattle.pipes_reader.specs.Taking.{text_refused, take_text, unless_taken, name_refused}
+use Rattle.pipes_reader.specs.Taking.{take_name}
+use Rattle.pipes_reader.proofs.Causes.{HasValue, NoValue, LeafWhy, IsSteady, steady_by, plain_why}
+use Rattle.pipes_reader.proofs.Causes.{steady_why}
 use Rattle.pipes_reader.proofs.Fresh.{fresh}
 use Rattle.pipes_reader.proofs.Readers.{IsReader}
-use Rattle.pipes_reader.proofs.Singles.{One, one, NotLast, Placed, reads_one, refused_place}
+use Rattle.pipes_reader.proofs.Singles.{One, one, NotLast, Placed, HasCauses, reads_one}
+use Rattle.pipes_reader.proofs.Singles.{refused_place}
 
 -- ---- numbers
 
@@ -52,6 +61,10 @@ number_is low high n End e = absurd cc
 pub number_of : (low high n : ℕ) → low ≤ n → n ≤ high → number_between low high (Number n) ≡ Some n
 number_of low high n least most = rw (le-leb low n least, le-leb n high most) refl
 
+abbrev is_number : TokenKind → Bool
+is_number (Number n) = true
+is_number _ = false
+
 number_not_last : (low high : ℕ) → NotLast (number_between low high)
 number_not_last low high k n e = ap (λ (z : TokenKind). is_last z) (number_is low high n k e).is
 
@@ -67,13 +80,41 @@ pub some_number : (low high : ℕ) → low ≤ high → Begins (One (number_betw
 some_number low high le =
     (low, Number low ∷ [], one (Number low) low (number_of low high low (omega arith) le))
 
+-- a number that has no value is out of range, and what is like another token has none either
+number_causes : (low high : ℕ) → low ≤ high → HasCauses (number_between low high) number_refused
+number_causes low high le k at is = by k is
+  where
+    others : (k j : TokenKind) → AreAlike k j → is_number k ≡ false
+        → number_between low high k ≡ None → number_between low high j ≡ None
+    others _ _ (itself k) e none = none
+    others _ _ (two_numbers n m) e none = absurd cc
+    others _ _ (two_names v w) e none = refl
+
+    plain : (k : TokenKind) → is_number k ≡ false → number_between low high k ≡ None
+        → LeafWhy (number_between low high) k (refused_by k at).why
+    plain k e none =
+        plain_why (HasValue (number_between low high)) ⊥ (NoValue (number_between low high)) k at
+        (λ j a. others k j a e none)
+
+    by : (k : TokenKind) → number_between low high k ≡ None
+        → LeafWhy (number_between low high) k (number_refused k at).why
+    by (Number n) none = other_number n low (low, number_of low high low (omega arith) le)
+    by (Sign x) none = plain (Sign x) refl none
+    by (Keyword x) none = plain (Keyword x) refl none
+    by (Name x) none = plain (Name x) refl none
+    by (Text x) none = plain (Text x) refl none
+    by (Cut x) none = plain (Cut x) refl none
+    by Long none = plain Long refl none
+    by Byte none = plain Byte refl none
+    by End none = plain End refl none
+
 pub reads_number : (low high : ℕ) → low ≤ high
     → IsReader (One (number_between low high)) (Anywhere (One (number_between low high))) AtToken
     (take_number low high)
 unfolding take_number
 reads_number low high le =
     reads_one (number_between low high) number_refused (some_number low high le)
-    (number_not_last low high) (number_placed low high)
+    (number_not_last low high) (number_placed low high) (number_causes low high le)
 
 -- ---- strings
 
@@ -100,9 +141,24 @@ text_placed End at is = inl refl
 pub some_text : Begins (One text_of) []
 some_text = ([], Text [] ∷ [], one (Text []) [] refl)
 
+plain : (k : TokenKind) (at : ℕ) → text_of k ≡ None → LeafWhy text_of k (refused_by k at).why
+plain k at none =
+    steady_why text_of (steady_by text_of (λ n m e. refl) (λ v w e. refl)) k at none
+
+text_causes : HasCauses text_of text_refused
+text_causes (Cut r) at is = broken r [] ([], refl)
+text_causes (Text t) at is = absurd cc
+text_causes (Sign x) at is = plain (Sign x) at is
+text_causes (Keyword x) at is = plain (Keyword x) at is
+text_causes (Name x) at is = plain (Name x) at is
+text_causes (Number x) at is = plain (Number x) at is
+text_causes Long at is = plain Long at is
+text_causes Byte at is = plain Byte at is
+text_causes End at is = plain End at is
+
 pub reads_text : IsReader (One text_of) (Anywhere (One text_of)) AtToken take_text
 unfolding take_text
-reads_text = reads_one text_of text_refused some_text text_not_last text_placed
+reads_text = reads_one text_of text_refused some_text text_not_last text_placed text_causes
 
 -- ---- names
 
@@ -134,20 +190,44 @@ name_placed word names k at is = inl (by (word k))
     by None = refused_place k at
 
 module _ (word : TokenKind → Option (List ℕ)) (names : List (List ℕ))
-    (named : (w : List ℕ) → word (Name w) ≡ Some w) (last : NotLast word) where
-  name_not_last : NotLast (name_value word names)
-  name_not_last k w e = last k w (name_is names (word k) w e).0
+    (named : (w : List ℕ) → word (Name w) ≡ Some w) (last : NotLast word)
+    (words : (k : TokenKind) (w : List ℕ) → word k ≡ Some w → IsWord k) (steady : IsSteady word)
+  where
+    name_not_last : NotLast (name_value word names)
+    name_not_last k w e = last k w (name_is names (word k) w e).0
 
-  pub some_name : Begins (One (name_value word names)) []
-  some_name = some (fresh names)
-    where
-      some : (w : List ℕ) × (is_taken names w ≡ false) → Begins (One (name_value word names)) []
-      some (w, h) = (w, Name w ∷ [], one (Name w) w (name_new names (word (Name w)) w (named w) h))
+    pub some_name : Begins (One (name_value word names)) []
+    some_name = some (fresh names)
+      where
+        some : (w : List ℕ) × (is_taken names w ≡ false) → Begins (One (name_value word names)) []
+        some (w, h) = (
+          w,
+          Name w ∷ [],
+          one (Name w) w (name_new names (word (Name w)) w
+              (named w) h),
+        )
 
-  pub reads_name : IsReader (One (name_value word names))
-      (Anywhere (One (name_value word names))) AtToken
-      (take_name word names)
-  unfolding take_name
-  reads_name =
-      reads_one (name_value word names) (λ k at. name_refused (word k) k at) some_name name_not_last
-      (name_placed word names)
+    name_causes : HasCauses (name_value word names) (λ k at. name_refused (word k) k at)
+    name_causes k at is = by (word k) refl
+      where
+        by : (o : Option (List ℕ)) → word k ≡ o
+            → LeafWhy (name_value word names) k (name_refused o k at).why
+        by (Some w) e =
+            let f = fresh names in
+            other_word k f.0 (words k w e) (
+              f.0,
+              name_new names (word (Name f.0)) f.0
+                  (named f.0) f.1,
+            )
+        by None e =
+            plain_why (HasValue (name_value word names)) ⊥ (NoValue (name_value word names)) k at
+            (λ j a. ap (λ (o : Option (List ℕ)). unless_taken names o) (steady k j a e))
+
+    pub reads_name : IsReader (One (name_value word names))
+        (Anywhere (One (name_value word names))) AtToken
+        (take_name word names)
+    unfolding take_name
+    reads_name =
+        reads_one (name_value word names) (λ k at. name_refused (word k) k at) some_name
+        name_not_last
+        (name_placed word names) name_causes

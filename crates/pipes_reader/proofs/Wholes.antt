@@ -1,25 +1,32 @@
 -- The reader of a whole text, over any grammar.
-use Rattle.std.proofs.Common.{◌≡◌, ℕ, ◌≤◌, Bool, true, false, ◌||◌, List, [], ◌∷◌, ◌++◌, length, Option, Some, Result, Ok, Err, refl, sym, ap, subst, ◌∙◌, append_assoc, arith}
+use Rattle.std.proofs.Common.{◌≡◌, ℕ, ◌≤◌, Bool, true, false, ◌||◌, List, [], ◌∷◌, ◌++◌, length}
+use Rattle.std.proofs.Common.{Option, Some, Result, Ok, Err, refl, sym, ap, subst, ◌∙◌}
+use Rattle.std.proofs.Common.{append_assoc, arith}
 use Rattle.std.proofs.lemmas.List.{append-nil}
 use Rattle.pipes_token.specs.declared.refusal.Refusal.{Refusal}
 use Rattle.pipes_token.specs.declared.token.TokenKind.{TokenKind}
-use Rattle.pipes_token.specs.declared.token.TokenKind.TheVariants.{Sign, Keyword, Name, Number, Text, Long, Cut, Byte, End}
+use Rattle.pipes_token.specs.declared.token.TokenKind.TheVariants.{Sign, Keyword, Name, Number}
+use Rattle.pipes_token.specs.declared.token.TokenKind.TheVariants.{Text, Long, Cut, Byte, End}
 use Rattle.pipes_token.specs.declared.token.Token.{Token}
-use Rattle.pipes_token.specs.Places.{told}
+use Rattle.pipes_token.specs.Places.{known}
 use Rattle.pipes_token.specs.Spelling.{Spells}
 use Rattle.pipes_token.specs.Tokens.{Tokens, is_last, Stops}
 use Rattle.pipes_token.specs.Tokens as lexed
 use Rattle.pipes_token.proofs.OnlyTokens.{same_tokens}
 use Rattle.pipes_reader.specs.Reading.{Reads, ◌>>=◌, kinds_of, refused_by, at_end, then_end, whole}
 use Rattle.pipes_reader.specs.Sentences.{Grammar, GrammarBefore, Begins, next_of, has_last, Whole}
-use Rattle.pipes_reader.specs.Places.{Refusals, FirstPlace, AtToken, there}
+use Rattle.pipes_reader.specs.Causes.{AreAlike, itself, two_numbers, two_names}
+use Rattle.pipes_reader.specs.Places.{Refusals, AtToken, there}
 use Rattle.pipes_token.specs.declared.refusal.TextRefusal.{TextRefusal}
 use Rattle.pipes_token.specs.declared.refusal.ReadFault.{ReadFault}
 use Rattle.pipes_token.specs.declared.refusal.ReadFault.TheVariants as fault
-use Rattle.pipes_reader.specs.Texts.{IsText, IsFile, ReadAs, IsRefused, HasTokens, IsRefusedBy, past_limit, by_tokens, IsReadBy}
+use Rattle.pipes_reader.specs.Texts.{IsText, IsFile, ReadAs, IsRefused, HasTokens, IsRefusedBy}
+use Rattle.pipes_reader.specs.Texts.{past_limit, by_tokens, IsReadBy}
 use Rattle.pipes_reader.specs.Texts as texts
-use Rattle.pipes_reader.proofs.TokenLists.{kinds-append, tokens_of, kinds-tokens, split, uncons, none, last_after}
-use Rattle.pipes_reader.proofs.Readers.{IsReader, RefusedAt}
+use Rattle.pipes_reader.proofs.TokenLists.{kinds-append, tokens_of, kinds-tokens, split, uncons}
+use Rattle.pipes_reader.proofs.TokenLists.{none, last_after}
+use Rattle.pipes_reader.proofs.Causes.{why_map, Refuses, CauseOf, plain_why}
+use Rattle.pipes_reader.proofs.Readers.{IsReader, RefusedAt, first_place}
 use Rattle.pipes_reader.proofs.Singles.{refused_place}
 
 -- ---- the last token
@@ -46,22 +53,23 @@ text_ends n _ _ (lexed.next bs here rest t ts placed begins short others) =
 text_ends n _ _ (lexed.too_long bs here rest t placed begins long) = rw long refl
 text_ends n _ _ (lexed.stopped bs here t placed stops) = rw (stops_last n here t.kind stops) refl
 
-one_token : (t : Token) (front rest : List Token) (ks : List TokenKind) → t ∷ [] ≡ front ++ rest
-    → kinds_of front ≡ ks ++ (End ∷ []) → rest ≡ []
+one_token : (t : Token) (prefix rest : List Token) (ks : List TokenKind) → t ∷ [] ≡ prefix ++ rest
+    → kinds_of prefix ≡ ks ++ (End ∷ []) → rest ≡ []
 one_token t [] rest [] e f = absurd cc
 one_token t [] rest (k ∷ ks) e f = absurd cc
 one_token t (u ∷ []) rest ks e f = cc
-one_token t (u ∷ v ∷ front) rest ks e f = absurd cc
+one_token t (u ∷ v ∷ prefix) rest ks e f = absurd cc
 
 -- after the end of the text no token follows
-nothing_after : (n : ℕ) (bs : List ℕ) (ts : List Token) → Tokens n bs ts → (front rest : List Token)
-    (ks : List TokenKind) → ts ≡ front ++ rest → kinds_of front ≡ ks ++ (End ∷ []) → rest ≡ []
+nothing_after : (n : ℕ) (bs : List ℕ) (ts : List Token) → Tokens n bs ts
+    → (prefix rest : List Token)
+    (ks : List TokenKind) → ts ≡ prefix ++ rest → kinds_of prefix ≡ ks ++ (End ∷ []) → rest ≡ []
 nothing_after n _ _ (lexed.next bs here left t ts placed begins short others) [] rest [] e f =
     absurd cc
 nothing_after n _ _ (lexed.next bs here left t ts placed begins short others) [] rest (k ∷ ks) e f =
     absurd cc
 nothing_after n _ _ (lexed.next bs here left t ts placed begins short others)
-    (u ∷ front) rest [] e f =
+    (u ∷ prefix) rest [] e f =
     absurd (subst (λ (k : TokenKind). Spells k begins.spelling) kind_is begins.spells)
   where
     kind_is : t.kind ≡ End
@@ -69,15 +77,32 @@ nothing_after n _ _ (lexed.next bs here left t ts placed begins short others)
         let same : t ≡ u = cc in
         let last : u.kind ≡ End = cc in
         ap (λ (z : Token). z.kind) same ∙ last
-nothing_after n _ _ (lexed.next bs here left t ts placed begins short others) (u ∷ front) rest
+nothing_after n _ _ (lexed.next bs here left t ts placed begins short others) (u ∷ prefix) rest
     (k ∷ ks) e f =
-    nothing_after n left ts others front rest ks (cc) (cc)
-nothing_after n _ _ (lexed.too_long bs here left t placed begins long) front rest ks e f =
-    one_token t front rest ks e f
-nothing_after n _ _ (lexed.stopped bs here t placed stops) front rest ks e f =
-    one_token t front rest ks e f
+    nothing_after n left ts others prefix rest ks (cc) (cc)
+nothing_after n _ _ (lexed.too_long bs here left t placed begins long) prefix rest ks e f =
+    one_token t prefix rest ks e f
+nothing_after n _ _ (lexed.stopped bs here t placed stops) prefix rest ks e f =
+    one_token t prefix rest ks e f
 
 -- ---- a whole
+
+abbrev is_end : TokenKind → Bool
+is_end End = true
+is_end _ = false
+
+alike_ended : (k j : TokenKind) → AreAlike k j → is_end k ≡ false → is_end j ≡ false
+alike_ended _ _ (itself k) e = e
+alike_ended _ _ (two_numbers n m) e = refl
+alike_ended _ _ (two_names v w) e = refl
+
+abbrev err_of : {A : Type 0} → Refusal → Result A Refusal
+err_of r = Err r
+
+not_ended : {A : Type 0} (x : A) (k : TokenKind) (at : ℕ) → is_end k ≡ false
+    → at_end x k at ≡ err_of (refused_by k at)
+not_ended x End at e = absurd cc
+not_ended x _ at e = refl
 
 abbrev all_of : {A : Type 0} → A → Result A Refusal
 all_of x = Ok x
@@ -116,7 +141,7 @@ module _ {A : Type 0} (Is Within : Grammar A) (In : GrammarBefore A) (Where Whol
     (closed : (x : A) (ks : List TokenKind) → Within x ks → In x ks (Some End)) where
   found_by : (ts : List Token) (x : A) (q : Result (A × List Token) Refusal) → read ts ≡ q
       → (q >>= λ y. then_end y.0 y.1) ≡ Ok x
-      → (front rest : List Token) × Whole Within x (kinds_of front) × (ts ≡ front ++ rest)
+      → (prefix rest : List Token) × Whole Within x (kinds_of prefix) × (ts ≡ prefix ++ rest)
   found_by ts x (Err r) is e = absurd cc
   found_by ts x (Ok (y, us)) is e =
       let f = reads.found ts y us is in
@@ -154,14 +179,15 @@ module _ {A : Type 0} (Is Within : Grammar A) (In : GrammarBefore A) (Where Whol
       let p = split sentence (End ∷ []) ts (sym e) in
       let c = uncons End [] p.back p.back_kinds in
       let nothing = none c.tail c.tail_kinds in
-      let parts : ts ++ rest ≡ p.front ++ (c.head ∷ rest) =
-      ap (λ (z : List Token). z ++ rest) (p.parts ∙ ap (λ (z : List Token). p.front ++ z)
+      let parts : ts ++ rest ≡ p.prefix ++ (c.head ∷ rest) =
+      ap (λ (z : List Token). z ++ rest) (p.parts ∙ ap (λ (z : List Token). p.prefix ++ z)
       (c.parts ∙ ap (λ (z : List Token). c.head ∷ z) nothing))
-      ∙ append_assoc p.front (c.head ∷ []) rest in
-      let here : In x (kinds_of p.front) (Some c.head.kind) =
-      subst (λ (k : TokenKind). In x (kinds_of p.front) (Some k)) (sym c.head_kind)
-      (closed x (kinds_of p.front) (subst (λ (z : List TokenKind). Within x z) p.front_kinds is)) in
-      let one = reads.only x p.front (c.head ∷ rest) here in
+      ∙ append_assoc p.prefix (c.head ∷ []) rest in
+      let here : In x (kinds_of p.prefix) (Some c.head.kind) =
+      subst (λ (k : TokenKind). In x (kinds_of p.prefix) (Some k)) (sym c.head_kind)
+      (closed x (kinds_of p.prefix) (subst (λ (z : List TokenKind). Within x z) p.prefix_kinds is))
+      in
+      let one = reads.only x p.prefix (c.head ∷ rest) here in
       rw (parts, one, c.head_kind) refl
 
   -- a text's value is read
@@ -203,52 +229,50 @@ module _ {A : Type 0} (Is Within : Grammar A) (In : GrammarBefore A) (Where Whol
 
   -- ---- its first place
 
-  -- with the refused token no sentence goes on
-  ends : (r : Refusal) (before : List Token) (refused : Token)
-      → ((other : List Token) → whole read (before ++ (refused ∷ other)) ≡ Err r)
-      → Begins (Whole Within) (kinds_of (before ++ (refused ∷ []))) → ⊥
-  ends r before refused stands (x, more, is) =
+  -- no text within the limits begins so
+  barred : (before : List Token) → ((other : List Token) → Refuses (whole read) (before ++ other))
+      → Begins (Whole Within) (kinds_of before) → ⊥
+  barred before refuses (x, more, is) =
       let other = tokens_of more in
-      let up_to = before ++ (refused ∷ []) in
-      let kinds : kinds_of up_to ++ more ≡ kinds_of (up_to ++ other) =
-      ap (λ (z : List TokenKind). kinds_of up_to ++ z) (sym (kinds-tokens more))
-      ∙ sym (kinds-append up_to other) in
-      let read_on =
-      only_whole x (up_to ++ other) []
+      let kinds : kinds_of before ++ more ≡ kinds_of (before ++ other) =
+      ap (λ (z : List TokenKind). kinds_of before ++ z) (sym (kinds-tokens more))
+      ∙ sym (kinds-append before other) in
+      let read_on : whole read ((before ++ other) ++ []) ≡ Ok x =
+      only_whole x (before ++ other) []
       (subst (λ (z : List TokenKind). Whole Within x z) kinds is) in
-      let same : (up_to ++ other) ++ [] ≡ before ++ (refused ∷ other) =
-      append-nil (up_to ++ other) ∙ append_assoc before (refused ∷ []) other in
-      differ x (sym read_on ∙ ap (λ (z : List Token). whole read z) same ∙ stands other)
+      differ x (sym read_on ∙ ap (λ (z : List Token). whole read z) (append-nil (before ++ other)))
+      (refuses other)
     where
-      differ : (x : A) → all_of x ≡ Err r → ⊥
-      differ x e = cc
+      differ : (x : A) → all_of x ≡ whole read (before ++ tokens_of more)
+          → Refuses (whole read) (before ++ tokens_of more) → ⊥
+      differ x e (r, f) = cc
+
+  refuses_whole : (us : List Token) → Refuses read us → Refuses (whole read) us
+  refuses_whole us (d, e) = (d, rw e refl)
 
   module _ (place : (before : List Token) (t : Token) (r : Refusal) → Where before t r
       → WholeWhere before t r)
       (place_end : (before : List Token) (t : Token) (r : Refusal) → AtToken before t r
       → WholeWhere before t r) where
     at_place : (ts : List Token) (r : Refusal) → RefusedAt Is Where read ts r
-        → FirstPlace (Whole Is) (Whole Within) WholeWhere (whole read) ts r
+        → RefusedAt (Whole Is) WholeWhere (whole read) ts r
     at_place ts r s = record {
       before = s.before;
       refused = s.refused;
       after = s.after;
       parts = s.parts;
-      begins = begun s.begins;
-      ends = ends r s.before s.refused stands;
-      stands = stands;
+      begins = begun (kinds_of s.before) s.begins;
+      stands = λ other. rw (s.stands other) refl;
       place = place s.before s.refused r s.place;
+      cause = why_map _ _ _ _ _ _ (λ k goes. begun (kinds_of s.before ++ (k ∷ [])) goes)
+          (λ full other. refuses_whole (s.before ++ other) (full other)) s.refused.kind r.why
+          (λ j a stuck u other e. refuses_whole (s.before ++ (u ∷ other)) (stuck u other e))
+          s.cause;
     }
       where
-        begun : Begins Is (kinds_of s.before) → Begins (Whole Is) (kinds_of s.before)
-        begun (x, more, is) = (
-          x,
-          more ++ (End ∷ []),
-          (kinds_of s.before ++ more, is, sym (append_assoc (kinds_of s.before) more (End ∷ []))),
-        )
-
-        stands : (other : List Token) → whole read (s.before ++ (s.refused ∷ other)) ≡ Err r
-        stands other = rw (s.stands other) refl
+        begun : (ks : List TokenKind) → Begins Is ks → Begins (Whole Is) ks
+        begun ks (x, more, is) =
+            (x, more ++ (End ∷ []), (ks ++ more, is, sym (append_assoc ks more (End ∷ []))))
 
     -- a token is left where the text would have to end
     not_end : (x : A) (t : Token) (k : TokenKind) (r : Refusal) → at_end x k t.at ≡ Err r
@@ -263,31 +287,50 @@ module _ {A : Type 0} (Is Within : Grammar A) (In : GrammarBefore A) (Where Whol
     not_end x t Long r e = cc
     not_end x t Byte r e = cc
 
-    at_rest : (ts : List Token) (r : Refusal) (x : A) (front us : List Token)
-        → In x (kinds_of front) (next_of us) → ts ≡ front ++ us → has_last (kinds_of us) ≡ true
-        → then_end x us ≡ Err r → FirstPlace (Whole Is) (Whole Within) WholeWhere (whole read) ts r
-    at_rest ts r x front [] is parts h e = absurd cc
-    at_rest ts r x front (t ∷ us) is parts h e = record {
-      before = front;
+    at_rest : (ts : List Token) (r : Refusal) (x : A) (prefix us : List Token)
+        → In x (kinds_of prefix) (next_of us) → ts ≡ prefix ++ us → has_last (kinds_of us) ≡ true
+        → then_end x us ≡ Err r → RefusedAt (Whole Is) WholeWhere (whole read) ts r
+    at_rest ts r x prefix [] is parts h e = absurd cc
+    at_rest ts r x prefix (t ∷ us) is parts h e = record {
+      before = prefix;
       refused = t;
       after = us;
       parts = parts;
       begins = (
         x,
         End ∷ [],
-        (kinds_of front, reads.wider x (kinds_of front) (Some t.kind) is, refl),
+        (kinds_of prefix, reads.wider x (kinds_of prefix) (Some t.kind) is, refl),
       );
-      ends = ends r front t stands;
-      stands = stands;
-      place = place_end front t r (there (not_end x t t.kind r e));
+      stands = λ other. rw (reads.only x prefix (t ∷ other) is) e;
+      place = place_end prefix t r (there (not_end x t t.kind r e));
+      cause = subst (λ (z : Refusal). CauseOf (Whole Is) (whole read) prefix t.kind z.why)
+          (err_is (sym (not_ended x t.kind t.at goes) ∙ e))
+          (plain_why _ _ _ t.kind t.at (λ j a u other f. past u other
+          (subst (λ (k : TokenKind). In x (kinds_of prefix) (Some k)) (sym f)
+          (reads.alike x (kinds_of prefix) t.kind j a is))
+          (ap is_end f ∙ alike_ended t.kind j a goes)));
     }
       where
-        stands : (other : List Token) → whole read (front ++ (t ∷ other)) ≡ Err r
-        stands other = rw (reads.only x front (t ∷ other) is) e
+        err_is : {y z : Refusal} → err_of {A = A} y ≡ err_of z → y ≡ z
+        err_is f = cc
+
+        goes_by : (k : TokenKind) → at_end x k t.at ≡ Err r → is_end k ≡ false
+        goes_by End f = absurd cc
+        goes_by _ f = refl
+
+        goes : is_end t.kind ≡ false
+        goes = goes_by t.kind e
+
+        past : (u : Token) (other : List Token) → In x (kinds_of prefix) (Some u.kind)
+            → is_end u.kind ≡ false → Refuses (whole read) (prefix ++ (u ∷ other))
+        past u other may n = (
+          refused_by u.kind u.at,
+          rw (reads.only x prefix (u ∷ other) may) (not_ended x u.kind u.at n),
+        )
 
     first_by : (ts : List Token) (r : Refusal) (q : Result (A × List Token) Refusal)
         → has_last (kinds_of ts) ≡ true → read ts ≡ q → (q >>= λ y. then_end y.0 y.1) ≡ Err r
-        → FirstPlace (Whole Is) (Whole Within) WholeWhere (whole read) ts r
+        → RefusedAt (Whole Is) WholeWhere (whole read) ts r
     first_by ts r (Err d) h is e = at_place ts r (reads.first ts r h (is ∙ cc))
     first_by ts r (Ok (x, us)) h is e =
         let f = reads.found ts x us is in
@@ -298,10 +341,12 @@ module _ {A : Type 0} (Is Within : Grammar A) (In : GrammarBefore A) (Where Whol
     -- a text is refused at the first token with which no text goes on
     pub whole_refused : (bytes : List ℕ) (ts : List Token) (r : Refusal) → length bytes ≤ 1048576
         → Tokens (length bytes) bytes ts → whole read ts ≡ Err r
-        → IsRefused Is Within WholeWhere read bytes (told bytes r)
+        → IsRefused Is Within WholeWhere read bytes (known bytes r)
     whole_refused bytes ts r short are e =
         texts.tokens ts r short are
-        (first_by ts r (read ts) (text_ends (length bytes) bytes ts are) refl e)
+        (first_place (Whole Within) (whole read) barred (Whole Is) WholeWhere WholeWhere
+        (λ before t r p. p) ts r
+        (first_by ts r (read ts) (text_ends (length bytes) bytes ts are) refl e))
 
     pub text_refused : (bytes : List ℕ) (r : TextRefusal) → IsRefusedBy read bytes r
         → IsRefused Is Within WholeWhere read bytes r
@@ -310,10 +355,11 @@ module _ {A : Type 0} (Is Within : Grammar A) (In : GrammarBefore A) (Where Whol
 
 -- ---- the refusal with its place by line and column
 
-pub told_refused : {A : Type 0} (read : Reads A) (bytes : List ℕ) (ts us : List Token) (r : Refusal)
+pub known_refused : {A : Type 0} (read : Reads A) (bytes : List ℕ) (ts us : List Token)
+    (r : Refusal)
     (line : TextRefusal) → length bytes ≤ 1048576 → Tokens (length bytes) bytes us → ts ≡ us
-    → whole read ts ≡ Err r → line ≡ told bytes r → IsRefusedBy read bytes line
-told_refused read bytes ts us r line short are same e f =
+    → whole read ts ≡ Err r → line ≡ known bytes r → IsRefusedBy read bytes line
+known_refused read bytes ts us r line short are same e f =
     let by = by_tokens us r (record { short = short; are = are })
     (subst (λ (z : List Token). whole read z ≡ Err r) same e) in
     subst (λ (z : TextRefusal). IsRefusedBy read bytes z) (sym f) by

@@ -1,5 +1,6 @@
 pub mod Reading
 pub mod Sentences
+pub mod Causes
 pub mod Places
 pub mod Texts
 pub mod Names

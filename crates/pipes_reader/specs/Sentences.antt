@@ -39,7 +39,7 @@ ahead (k ∷ ks) h = Some k
 -- left.
 abbrev pub Prefix : {A : Type 0} → GrammarBefore A → A → List Token → List Token → Type 0
 Prefix In x ts rest =
-    (front : List Token) × In x (kinds_of front) (next_of rest) × (ts ≡ front ++ rest)
+    (prefix : List Token) × In x (kinds_of prefix) (next_of rest) × (ts ≡ prefix ++ rest)
 
 -- ---- a text's last token
 

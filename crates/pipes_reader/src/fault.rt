@@ -18,7 +18,10 @@ pub enum ParseFault {
 }
 
 impl From<Memory> for ParseFault {
-    ghost use Rattle.pipes_reader.specs.declared.fault.ParseFault.TheVariants.{Memory as WantOfMemory};
+    ghost use Rattle.pipes_reader.specs.declared.fault.ParseFault.TheVariants.{
+      Memory as
+          WantOfMemory,
+    };
     ghost use Rattle.std.specs.Prelude.{◌≡◌};
 
     ghost from_gives = { λ _ fault. fault ≡ WantOfMemory };
@@ -29,7 +32,10 @@ impl From<Memory> for ParseFault {
 }
 
 impl From<AllocError> for ParseFault {
-    ghost use Rattle.pipes_reader.specs.declared.fault.ParseFault.TheVariants.{Memory as WantOfMemory};
+    ghost use Rattle.pipes_reader.specs.declared.fault.ParseFault.TheVariants.{
+      Memory as
+          WantOfMemory,
+    };
     ghost use Rattle.std.specs.Prelude.{◌≡◌};
 
     ghost from_gives = { λ _ fault. fault ≡ WantOfMemory };
@@ -40,7 +46,10 @@ impl From<AllocError> for ParseFault {
 }
 
 impl<T: Drop> From<AllocFailed<T>> for ParseFault {
-    ghost use Rattle.pipes_reader.specs.declared.fault.ParseFault.TheVariants.{Memory as WantOfMemory};
+    ghost use Rattle.pipes_reader.specs.declared.fault.ParseFault.TheVariants.{
+      Memory as
+          WantOfMemory,
+    };
     ghost use Rattle.std.specs.Prelude.{◌≡◌};
 
     ghost from_gives = { λ _ fault. fault ≡ WantOfMemory };

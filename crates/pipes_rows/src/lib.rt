@@ -1,6 +1,6 @@
-//! Worked examples over the public calls of the other crates, and of the program. It has tests
-//! alone: what a contract says exactly needs none, so these show what no clause says, that ample
-//! memory is no reason to give up, and tables against the definitions, worked out by hand.
+//! Worked examples of the program and of plans. It has tests alone: what a contract says exactly
+//! needs none, so these show what no clause says, that ample memory is no reason to give up, and
+//! tables against the definitions, worked out by hand.
 #![tactic(auto)]
 
 #[cfg(test)]
@@ -9,7 +9,3 @@ mod late;
 mod plans;
 #[cfg(test)]
 mod program;
-#[cfg(test)]
-mod splits;
-#[cfg(test)]
-mod streams;

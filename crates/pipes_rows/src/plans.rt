@@ -54,8 +54,8 @@ fn values_of_expressions(rt: HostRuntime) -> Result<(), Fail> {
 }
 
 // Two windows over one file.
-const TWO: &str =
-    "source a from \"a.csv\" (v int) window count 4\nsource b from \"a.csv\" (v int) window count 2\n";
+const TWO: &str = "source a from \"a.csv\" (v int) window count 4\n\
+    source b from \"a.csv\" (v int) window count 2\n";
 
 #[test]
 fn answers_of_plans(rt: HostRuntime) -> Result<(), Fail> {
@@ -94,7 +94,8 @@ fn aggregates_of_rows(rt: HostRuntime) -> Result<(), Fail> {
         ),
         (
             "at,v\n0,-9223372036854775808\n0,-9223372036854775808\n",
-            "2 -9223372036854775808 -9223372036854775808 -9223372036854775808 -9223372036854775808\n",
+            "2 -9223372036854775808 -9223372036854775808 -9223372036854775808 \
+                -9223372036854775808\n",
         ),
     ] {
         expect(&rt, AT, TWO, plan, rows, (0, want, ""))?;
@@ -102,8 +103,8 @@ fn aggregates_of_rows(rt: HostRuntime) -> Result<(), Fail> {
     Ok(())
 }
 
-const KINDS: &str =
-    "source a from \"a.csv\" (i int, t text) window time 1\nsource b from \"b.csv\" (i int) window time 1\n";
+const KINDS: &str = "source a from \"a.csv\" (i int, t text) window time 1\n\
+    source b from \"b.csv\" (i int) window time 1\n";
 
 #[test]
 fn refusals_of_plans(rt: HostRuntime) -> Result<(), Fail> {
@@ -124,10 +125,10 @@ fn refusals_of_plans(rt: HostRuntime) -> Result<(), Fail> {
         ("group([], [sum 1, avg 7], a)", "0 kind"),
         ("group([], [min 1, max 2], a)", "0 column"),
     ] {
-        let mut told = String::from_str(rt.alloc(), "pipes: query type ")?;
-        told.push_str(line)?;
-        told.push_str("\n")?;
-        expect(&rt, CHECK, KINDS, plan, "", (2, "", told.as_str()))?;
+        let mut known = String::from_str(rt.alloc(), "pipes: query type ")?;
+        known.push_str(line)?;
+        known.push_str("\n")?;
+        expect(&rt, CHECK, KINDS, plan, "", (2, "", known.as_str()))?;
     }
     Ok(())
 }
@@ -183,7 +184,7 @@ fn numbers_of_nodes(rt: HostRuntime) -> Result<(), Fail> {
     expect(&rt, CHECK, KINDS, more.as_str(), "", many)?;
     let most = doubled(&rt, "b", "union(", ", ", 7)?;
     expect_checked(&rt, most.as_str(), "int")?;
-    // Told before what is refused in a node.
+    // Known before what is refused in a node.
     let more = joined(&rt, &["filter(1, ", most.as_str(), ")"])?;
     expect(&rt, CHECK, KINDS, more.as_str(), "", many)
 }

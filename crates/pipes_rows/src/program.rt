@@ -80,8 +80,8 @@ const COUNT_TWO: &str = "source a from \"a.csv\" (v int) window count 2\nplan a\
 
 const COUNT_ONE: &str = "source a from \"a.csv\" (v int) window count 1\nplan a\n";
 
-const TWO_FILTERS: &str =
-    "source a from \"a.csv\" (v int) window time 10\nplan filter((0 < $0), filter(($0 < 100), a))\n";
+const TWO_FILTERS: &str = "source a from \"a.csv\" (v int) window time 10\n\
+    plan filter((0 < $0), filter(($0 < 100), a))\n";
 
 const TEXTS: &str = "source a from \"a.csv\" (s text, f flag) window time 2\nplan filter($1, a)\n";
 
@@ -120,7 +120,7 @@ fn texts_quotes_and_heartbeats(rt: HostRuntime) -> Result<(), Fail> {
     let rows = "at,s,f\n0,\"a,\"\"b\"\"\",true\n0001,,false\n1,x y,true\n\n7\n";
     let want = "+ 0 2 \"a,\\\"b\\\"\" true\n+ 1 3 \"x y\" true\nend\n";
     expect_rows(&rt, RUN, TEXTS, rows, (0, want, ""))?;
-    // The last item is a heartbeat, and a row before it is refused as one that falls behind it.
+    // The last item is a heartbeat, and a row before it is refused as one that falls after it.
     let late = "at,s,f\n0,a,true\n7\n6,b,true\n";
     let want = (
         3,
@@ -230,13 +230,14 @@ fn a_query_is_checked(rt: HostRuntime) -> Result<(), Fail> {
         "source a from \"a.csv\" (v int) window time 3\nplan filter((0 < $0), a)\nkinds int\n";
     expect_rows(&rt, CHECK, QUERY, ROWS, (0, printed, ""))?;
     expect_rows(&rt, CHECK, laid_out, ROWS, (0, printed, ""))?;
-    let texts =
-        "source a from \"a.csv\" (s text, f flag) window time 2\nplan filter($1, a)\nkinds text flag\n";
+    let texts = "source a from \"a.csv\" (s text, f flag) window time 2\nplan filter($1, a)\n\
+        kinds text flag\n";
     expect_rows(&rt, CHECK, TEXTS, ROWS, (0, texts, ""))
 }
 
-const JOIN: &str =
-    "source bids from \"bids.csv\" (item int, price int) window time 5\nsource asks from \"asks.csv\" (item int, price int) window time 5\nplan join([0=0], true, bids, asks)\n";
+const JOIN: &str = "source bids from \"bids.csv\" (item int, price int) window time 5\n\
+    source asks from \"asks.csv\" (item int, price int) window time 5\n\
+    plan join([0=0], true, bids, asks)\n";
 
 fn market(alloc: Global) -> Result<MemFiles, Fail> {
     let mut files = MemFiles::new(alloc);

@@ -1,28 +1,33 @@
 -- A query that was printed, as what the command does.
-use Rattle.std.proofs.Common.{◌≡◌, ℕ, List, ◌++◌, take, Option, Some, Result, Ok, Err, OnOk, OnErr, IsErrOf, refl, ap}
+use Rattle.std.proofs.Common.{◌≡◌, ℕ, List, ◌++◌, take, Option, Some, Result, Ok, Err, OnOk, OnErr}
+use Rattle.std.proofs.Common.{IsErrOf, refl, ap}
 use Rattle.std.specs.Io.KnownBytes.{Appends}
 use Rattle.pipes_edge.specs.Outside.{Names}
 use Rattle.pipes_edge.specs.Causes.{Rose}
-use Rattle.pipes_buffer.specs.Pieces.{AppendsFront}
+use Rattle.pipes_buffer.specs.Pieces.{AppendsPrefix}
 use Rattle.pipes_buffer.specs.declared.IoFault.{IoFault}
 use Rattle.pipes_buffer.specs.declared.IoFault.TheVariants as io
-use Rattle.pipes_words.specs.Command.{Check}
+use Rattle.pipes_args.specs.Command.{Check}
 use Rattle.pipes_tuple.specs.declared.value.Kind.{Kind}
 use Rattle.pipes_plan.specs.PlanKinds.{plan_kinds}
 use Rattle.pipes_query.specs.declared.query.Query.{Query}
 use Rattle.pipes_text.specs.Printing.{query_text}
-use Rattle.pipes_meaning.specs.Answer.{schemas_of}
-use Rattle.pipes_run.specs.Outcome.{Counts, RanAfter, kinds_line, checked_text}
+use Rattle.pipes_semantics.specs.Answer.{schemas_of}
+use Rattle.pipes_run.specs.Outcome.{FaultCounts, RanAfter, kinds_line, checked_text}
 use Rattle.pipes_run.specs.Seen.{io_fault_of}
 
-text_is : (query : Query) (schema : List Kind) → plan_kinds query.plan (schemas_of query) ≡ Some schema → query_text query ++ kinds_line schema ≡ checked_text query
+text_is : (query : Query) (schema : List Kind) → plan_kinds query.plan (schemas_of query) ≡ Some
+    schema → query_text query ++ kinds_line schema ≡ checked_text query
 text_is query schema kinds = rw kinds refl
 
-pub printed : (name : List ℕ) (query : Query) (schema : List Kind) (told : Option Names) (before now : Counts) (first last : Option (List ℕ)) (done : Result (Unit {0}) IoFault)
+pub printed : (name : List ℕ) (query : Query) (schema : List Kind) (known : Option Names)
+    (before now : FaultCounts) (first last : Option (List ℕ)) (done : Result (Unit {0}) IoFault)
     → plan_kinds query.plan (schemas_of query) ≡ Some schema
-    → OnOk done (Appends first last (query_text query ++ kinds_line schema)) → OnErr done (AppendsFront first last (query_text query ++ kinds_line schema)) → (IsErrOf done io.Failed → Rose before.out now.out)
-    → RanAfter (Check name) query told before now first last (io_fault_of done)
-printed name query schema told before now first last (Ok u) kinds ok err cause = record {
+    → OnOk done (Appends first last (query_text query ++ kinds_line schema))
+    → OnErr done (AppendsPrefix first last (query_text query ++ kinds_line schema))
+    → (IsErrOf done io.Failed → Rose before.out now.out)
+    → RanAfter (Check name) query known before now first last (io_fault_of done)
+printed name query schema known before now first last (Ok u) kinds ok err cause = record {
   wrote = query_text query ++ kinds_line schema;
   appended = ok;
   served = λ e. cc;
@@ -30,7 +35,7 @@ printed name query schema told before now first last (Ok u) kinds ok err cause =
   quiet = tt;
   does = λ files tells. text_is query schema kinds;
 }
-printed name query schema told before now first last (Err io.Failed) kinds ok err cause = record {
+printed name query schema known before now first last (Err io.Failed) kinds ok err cause = record {
   wrote = take err.0 (query_text query ++ kinds_line schema);
   appended = err.1;
   served = λ e. cc;
@@ -38,7 +43,7 @@ printed name query schema told before now first last (Err io.Failed) kinds ok er
   quiet = tt;
   does = λ files tells. (err.0, ap (λ (l : List ℕ). take err.0 l) (text_is query schema kinds));
 }
-printed name query schema told before now first last (Err io.Memory) kinds ok err cause = record {
+printed name query schema known before now first last (Err io.Memory) kinds ok err cause = record {
   wrote = take err.0 (query_text query ++ kinds_line schema);
   appended = err.1;
   served = λ e. cc;

@@ -1,18 +1,22 @@
 -- What a command has done, from what its steps have done.
-use Rattle.std.proofs.Common.{◌≡◌, ◌⊎◌, ℕ, ◌≤◌, List, [], Option, Some, None, Result, Ok, Err, refl, sym, subst, ◌∙◌, inl, inr}
+use Rattle.std.proofs.Common.{◌≡◌, ◌⊎◌, ℕ, ◌≤◌, List, [], Option, Some, None, Result, Ok, Err, refl}
+use Rattle.std.proofs.Common.{sym, subst, ◌∙◌, inl, inr}
 use Rattle.std.proofs.KnownBytes.{Appends-nil}
 use Rattle.pipes_edge.specs.Outside.{Names, NoneFalls}
 use Rattle.pipes_edge.specs.Causes.{Rose}
-use Rattle.pipes_words.specs.Command.{Command, Run, At, Check}
+use Rattle.pipes_args.specs.Command.{Command, Run, At, Check}
 use Rattle.pipes_query.specs.declared.query.Query.{Query}
-use Rattle.pipes_fault.specs.Fault.{Fault, Words, QueryText, QueryType, Unbuilt, Missing, ReadFile, ReadSource, Row, Limit, Write, Memory}
-use Rattle.pipes_run.specs.Asked.{Job, Holds, Asks, job_of, query_name}
-use Rattle.pipes_run.specs.Outcome.{Counts, HasCause, IsQuiet, StopsFirst, Does, DoesAsked, IsEarly, RanCommand, RanAfter}
+use Rattle.pipes_error.specs.Fault.{Fault, Words, QueryText, QueryType, Unbuilt, Missing, ReadFile}
+use Rattle.pipes_error.specs.Fault.{ReadSource, Row, Limit, Write, Memory}
+use Rattle.pipes_run.specs.Asked.{Job, IsQueryFile, Asks, job_of, query_name}
+use Rattle.pipes_run.specs.Outcome.{FaultCounts, HasCallCause, WritesNothing, StopsFirst, Does}
+use Rattle.pipes_run.specs.Outcome.{DoesAsked, IsEarly}
+use Rattle.pipes_run.specs.Outcome.{RanCommand, RanAfter}
 use Rattle.pipes_run.specs.Seen.{IsFree, IsOfQuery, IsReadOf}
 use Rattle.pipes_run.proofs.Causes.{rose_before}
 use Rattle.pipes_run.proofs.Nothing.{does_nothing}
 
-pub quiet_of : (fault : Fault) → IsQuiet (Some fault) []
+pub quiet_of : (fault : Fault) → WritesNothing (Some fault) []
 quiet_of Words = refl
 quiet_of (QueryText r) = refl
 quiet_of (QueryType r) = refl
@@ -66,11 +70,16 @@ asked_fault Write h = absurd h
 asked_fault Memory h = refl
 
 -- the query was not read
-pub ran_refused : (command : Command) (told : Option Names) (before now : Counts) (written : Option (List ℕ)) (fault : Fault) → IsOfQuery fault → HasCause (Some command) before now (Some fault)
-    → ((files : Names) → told ≡ Some files → Holds (query_name command) (files (query_name command)) (Err fault) ⊎ IsFree fault)
-    → ((files : Names) (query : Query) → told ≡ Some files → Holds (query_name command) (files (query_name command)) (Ok query) → IsFree fault)
-    → RanCommand command told before now written written (Some fault)
-ran_refused command told before now written fault of cause gives only = record {
+pub ran_refused : (command : Command) (known : Option Names) (before now : FaultCounts)
+    (written : Option (List ℕ)) (fault : Fault) → IsOfQuery fault
+    → HasCallCause (Some command) before now (Some fault)
+    → ((files : Names) → known ≡ Some files → IsQueryFile (query_name command)
+    (files (query_name command))
+    (Err fault) ⊎ IsFree fault)
+    → ((files : Names) (query : Query) → known ≡ Some files → IsQueryFile (query_name command)
+    (files (query_name command)) (Ok query) → IsFree fault)
+    → RanCommand command known before now written written (Some fault)
+ran_refused command known before now written fault of cause gives only = record {
   wrote = [];
   appended = Appends-nil written;
   served = not_words fault of;
@@ -80,42 +89,65 @@ ran_refused command told before now written fault of cause gives only = record {
   only = λ files job tells asks. only_job files job tells asks;
 }
   where
-    does : (files : Names) → Holds (query_name command) (files (query_name command)) (Err fault) ⊎ IsFree fault
-        → StopsFirst (Some fault) [] ⊎ ((job : Result Job Fault) × Asks command files job × DoesAsked job (Some fault) [])
+    does : (files : Names) → IsQueryFile (query_name command) (files (query_name command))
+        (Err fault)
+        ⊎ IsFree fault
+        → StopsFirst (Some fault) [] ⊎ ((job : Result Job Fault) × Asks command files job
+        × DoesAsked job (Some fault) [])
     does files (inr free) = inl (stops fault free)
     does files (inl holds) = inr (Err fault, (Err fault, holds, refl), asked_fault fault of)
 
-    only_job : (files : Names) (job : Job) → told ≡ Some files → Asks command files (Ok job) → Does job (Some fault) []
-    only_job files job tells (Ok query, holds, is) = does_nothing job fault (only files query tells holds)
+    only_job : (files : Names) (job : Job) → known ≡ Some files → Asks command files (Ok job)
+        → Does job (Some fault) []
+    only_job files job tells (Ok query, holds, is) = does_nothing job fault
+        (only files query tells holds)
     only_job files job tells (Err refused, holds, is) = cc
 
 -- the query was read, and the rest is done with it
-pub ran_after : (command : Command) (query : Query) (told : Option Names) (before now : Counts) (written_before written_now : Option (List ℕ)) (fault : Option Fault)
-    → ((files : Names) → told ≡ Some files → Holds (query_name command) (files (query_name command)) (Ok query))
-    → ((files : Names) (other : Query) → told ≡ Some files → Holds (query_name command) (files (query_name command)) (Ok other) → query ≡ other)
-    → RanAfter command query told before now written_before written_now fault → RanCommand command told before now written_before written_now fault
-ran_after command query told before now written_before written_now fault holds only ran = record {
+pub ran_after : (command : Command) (query : Query) (known : Option Names)
+    (before now : FaultCounts)
+    (written_before written_now : Option (List ℕ)) (fault : Option Fault)
+    → ((files : Names) → known ≡ Some files → IsQueryFile (query_name command)
+    (files (query_name command))
+    (Ok query))
+    → ((files : Names) (other : Query) → known ≡ Some files → IsQueryFile (query_name command)
+    (files (query_name command)) (Ok other) → query ≡ other)
+    → RanAfter command query known before now written_before written_now fault
+    → RanCommand command known before now written_before written_now fault
+ran_after command query known before now written_before written_now fault holds only ran = record {
   wrote = ran.wrote;
   appended = ran.appended;
   served = ran.served;
   cause = ran.cause;
   quiet = ran.quiet;
-  does = λ files tells. inr (job_of command files query, (Ok query, holds files tells, refl), ran.does files tells);
+  does = λ files tells. inr (
+    job_of command files query,
+    (Ok query, holds files tells, refl),
+    ran.does files tells,
+  );
   only = λ files job tells asks. only_job files job tells asks;
 }
   where
-    only_job : (files : Names) (job : Job) → told ≡ Some files → Asks command files (Ok job) → Does job fault ran.wrote
+    only_job : (files : Names) (job : Job) → known ≡ Some files → Asks command files (Ok job)
+        → Does job fault ran.wrote
     only_job files job tells (Ok other, held, is) =
-        let same : job_of command files query ≡ Ok job = subst (λ (q : Query). job_of command files q ≡ Ok job) (sym (only files other tells held)) (sym is) in
+        let same : job_of command files query ≡ Ok job = subst
+        (λ (q : Query). job_of command files q ≡ Ok job) (sym (only files other tells held))
+        (sym is) in
         subst (λ (j : Result Job Fault). DoesAsked j fault ran.wrote) same (ran.does files tells)
     only_job files job tells (Err refused, held, is) = cc
 
 -- ---- the counts of a call whose first step reads its query
 
-query_cause : (command : Command) (before now : Counts) (fault : Fault) → IsOfQuery fault → IsReadOf (query_name command) before.files now.files fault → HasCause (Some command) before now (Some fault)
-query_cause (Run name script form) before now (ReadFile file) of cause = (subst (λ (f : List ℕ). Rose (before.files f) (now.files f)) (sym cause.0) cause.1, inl cause.0)
-query_cause (At name t) before now (ReadFile file) of cause = (subst (λ (f : List ℕ). Rose (before.files f) (now.files f)) (sym cause.0) cause.1, tt)
-query_cause (Check name) before now (ReadFile file) of cause = (subst (λ (f : List ℕ). Rose (before.files f) (now.files f)) (sym cause.0) cause.1, tt)
+query_cause : (command : Command) (before now : FaultCounts) (fault : Fault) → IsOfQuery fault
+    → IsReadOf (query_name command) before.files now.files fault
+    → HasCallCause (Some command) before now (Some fault)
+query_cause (Run name script form) before now (ReadFile file) of cause =
+    (subst (λ (f : List ℕ). Rose (before.files f) (now.files f)) (sym cause.0) cause.1, inl cause.0)
+query_cause (At name t) before now (ReadFile file) of cause =
+    (subst (λ (f : List ℕ). Rose (before.files f) (now.files f)) (sym cause.0) cause.1, tt)
+query_cause (Check name) before now (ReadFile file) of cause =
+    (subst (λ (f : List ℕ). Rose (before.files f) (now.files f)) (sym cause.0) cause.1, tt)
 query_cause command before now Words of cause = tt
 query_cause command before now (QueryText r) of cause = tt
 query_cause command before now (QueryType r) of cause = tt
@@ -128,29 +160,45 @@ query_cause command before now Write of cause = absurd of
 query_cause command before now Memory of cause = tt
 
 -- the query was not read
-pub ran_unread : (command : Command) (told : Option Names) (before now : Counts) (written : Option (List ℕ)) (fault : Fault) → IsOfQuery fault → IsReadOf (query_name command) before.files now.files fault
-    → ((files : Names) → told ≡ Some files → Holds (query_name command) (files (query_name command)) (Err fault) ⊎ IsFree fault)
-    → ((files : Names) (query : Query) → told ≡ Some files → Holds (query_name command) (files (query_name command)) (Ok query) → IsFree fault)
-    → RanCommand command told before now written written (Some fault)
-ran_unread command told before now written fault of cause gives only = ran_refused command told before now written fault of (query_cause command before now fault of cause) gives only
+pub ran_unread : (command : Command) (known : Option Names) (before now : FaultCounts)
+    (written : Option (List ℕ)) (fault : Fault) → IsOfQuery fault
+    → IsReadOf (query_name command) before.files now.files fault
+    → ((files : Names) → known ≡ Some files → IsQueryFile (query_name command)
+    (files (query_name command))
+    (Err fault) ⊎ IsFree fault)
+    → ((files : Names) (query : Query) → known ≡ Some files → IsQueryFile (query_name command)
+    (files (query_name command)) (Ok query) → IsFree fault)
+    → RanCommand command known before now written written (Some fault)
+ran_unread command known before now written fault of cause gives only =
+    ran_refused command known before now written fault of (query_cause command before now fault of
+    cause) gives only
 
 -- no memory was left for a buffer
-pub ran_unstarted : (command : Command) (told : Option Names) (before now : Counts) (written : Option (List ℕ)) → RanCommand command told before now written written (Some Memory)
-ran_unstarted command told before now written = ran_refused command told before now written Memory tt tt (λ files tells. inr tt) (λ files query tells holds. tt)
+pub ran_unstarted : (command : Command) (known : Option Names) (before now : FaultCounts)
+    (written : Option (List ℕ)) → RanCommand command known before now written written (Some Memory)
+ran_unstarted command known before now written = ran_refused command known before now written Memory
+    tt tt (λ files tells. inr tt) (λ files query tells holds. tt)
 
-early_before : (command : Command) (name : List ℕ) (before mid now : ℕ) → before ≤ mid → IsEarly (Some command) name mid now → IsEarly (Some command) name before now
+early_before : (command : Command) (name : List ℕ) (before mid now : ℕ) → before ≤ mid
+    → IsEarly (Some command) name mid now → IsEarly (Some command) name before now
 early_before (Run query script form) name before mid now later (inl h) = inl h
 early_before (Run query script form) name before mid now later (inr (inl h)) = inr (inl h)
-early_before (Run query script form) name before mid now later (inr (inr rose)) = inr (inr (rose_before before mid now later rose))
+early_before (Run query script form) name before mid now later (inr (inr rose)) =
+    inr (inr (rose_before before mid now later rose))
 early_before (At query t) name before mid now later h = tt
 early_before (Check query) name before mid now later h = tt
 
-cause_before : (command : Command) (before mid now : Counts) (fault : Option Fault) → NoneFalls before.files mid.files → before.searches ≤ mid.searches → before.out ≡ mid.out
-    → HasCause (Some command) mid now fault → HasCause (Some command) before now fault
-cause_before command before mid now (Some (ReadFile file)) later searches same cause =
-    (rose_before (before.files file) (mid.files file) (now.files file) (later file) cause.0, early_before command file before.searches mid.searches now.searches searches cause.1)
-cause_before command before mid now (Some (ReadSource file)) later searches same cause = rose_before (before.files file) (mid.files file) (now.files file) (later file) cause
-cause_before command before mid now (Some Write) later searches same cause = subst (λ (n : ℕ). Rose n now.out) (sym same) cause
+cause_before : (command : Command) (before mid now : FaultCounts) (fault : Option Fault)
+    → NoneFalls before.files mid.files → before.searches ≤ mid.searches → before.out ≡ mid.out
+    → HasCallCause (Some command) mid now fault → HasCallCause (Some command) before now fault
+cause_before command before mid now (Some (ReadFile file)) later searches same cause = (
+  rose_before (before.files file) (mid.files file) (now.files file) (later file) cause.0,
+  early_before command file before.searches mid.searches now.searches searches cause.1,
+)
+cause_before command before mid now (Some (ReadSource file)) later searches same cause =
+    rose_before (before.files file) (mid.files file) (now.files file) (later file) cause
+cause_before command before mid now (Some Write) later searches same cause =
+    subst (λ (n : ℕ). Rose n now.out) (sym same) cause
 cause_before command before mid now (Some Words) later searches same cause = tt
 cause_before command before mid now (Some (QueryText r)) later searches same cause = tt
 cause_before command before mid now (Some (QueryType r)) later searches same cause = tt
@@ -162,16 +210,23 @@ cause_before command before mid now (Some Memory) later searches same cause = tt
 cause_before command before mid now None later searches same cause = tt
 
 -- the query was read, and the rest is done with it from then on
-pub ran_read : (command : Command) (query : Query) (told mid_told : Option Names) (before mid now : Counts) (first last : Option (List ℕ)) (fault : Option Fault)
-    → mid_told ≡ told → NoneFalls before.files mid.files → before.searches ≤ mid.searches → before.out ≡ mid.out
-    → ((files : Names) → told ≡ Some files → Holds (query_name command) (files (query_name command)) (Ok query))
-    → ((files : Names) (other : Query) → told ≡ Some files → Holds (query_name command) (files (query_name command)) (Ok other) → query ≡ other)
-    → RanAfter command query mid_told mid now first last fault → RanCommand command told before now first last fault
-ran_read command query told mid_told before mid now first last fault same later searches out holds only ran = ran_after command query told before now first last fault holds only (record {
-  wrote = ran.wrote;
-  appended = ran.appended;
-  served = ran.served;
-  cause = cause_before command before mid now fault later searches out ran.cause;
-  quiet = ran.quiet;
-  does = λ files tells. ran.does files (same ∙ tells);
-})
+pub ran_read : (command : Command) (query : Query) (known mid_known : Option Names)
+    (before mid now : FaultCounts) (first last : Option (List ℕ)) (fault : Option Fault)
+    → mid_known ≡ known → NoneFalls before.files mid.files → before.searches ≤ mid.searches
+    → before.out ≡ mid.out
+    → ((files : Names) → known ≡ Some files → IsQueryFile (query_name command)
+    (files (query_name command))
+    (Ok query))
+    → ((files : Names) (other : Query) → known ≡ Some files → IsQueryFile (query_name command)
+    (files (query_name command)) (Ok other) → query ≡ other)
+    → RanAfter command query mid_known mid now first last fault
+    → RanCommand command known before now first last fault
+ran_read command query known mid_known before mid now first last fault same later searches out holds
+    only ran = ran_after command query known before now first last fault holds only (record {
+      wrote = ran.wrote;
+      appended = ran.appended;
+      served = ran.served;
+      cause = cause_before command before mid now fault later searches out ran.cause;
+      quiet = ran.quiet;
+      does = λ files tells. ran.does files (same ∙ tells);
+    })

@@ -7,8 +7,9 @@ use Rattle.pipes_window.specs.declared.kind.WindowKind.{WindowKind}
 use Rattle.pipes_window.specs.Windows.{IsWindow}
 use Rattle.pipes_query.specs.declared.query.Query.{Query}
 use Rattle.pipes_query.specs.declared.query.SourceDecl.{SourceDecl}
-use Rattle.pipes_text.specs.Grammar.{IsWindowText, time, slide, count, IsSource, source, AreSources, last, more, IsQuery, query}
-use Rattle.pipes_run.specs.Seen.{HasText}
+use Rattle.pipes_text.specs.Grammar.{IsWindowText, time, slide, count, IsSource, source, AreSources}
+use Rattle.pipes_text.specs.Grammar.{last, more, IsQuery, query}
+use Rattle.pipes_run.specs.Seen.{HasQueryText}
 
 window_within : (kind : WindowKind) (ks : List TokenKind) → IsWindowText kind ks → IsWindow kind
 window_within kind ks (time n is) = is
@@ -18,12 +19,18 @@ window_within kind ks (count n low high) = (low, high)
 source_within : (s : SourceDecl) (ks : List TokenKind) → IsSource s ks → IsWindow s.window
 source_within s ks (source t cs ls ws columns slack window) = window_within t.window ws window
 
-sources_within : (sources : List SourceDecl) (ks : List TokenKind) → AreSources sources ks → All (λ (s : SourceDecl). IsWindow s.window) sources
-sources_within sources ks (last s ls h) = All-cons (λ (s : SourceDecl). IsWindow s.window) s [] (source_within s ls h) (All-nil (λ (s : SourceDecl). IsWindow s.window))
-sources_within sources ks (more s ss front back h others) = All-cons (λ (s : SourceDecl). IsWindow s.window) s ss (source_within s front h) (sources_within ss back others)
+sources_within : (sources : List SourceDecl) (ks : List TokenKind) → AreSources sources ks
+    → All (λ (s : SourceDecl). IsWindow s.window) sources
+sources_within sources ks (last s ls h) = All-cons (λ (s : SourceDecl). IsWindow s.window) s []
+    (source_within s ls h) (All-nil (λ (s : SourceDecl). IsWindow s.window))
+sources_within sources ks (more s ss prefix back h others) = All-cons
+    (λ (s : SourceDecl). IsWindow s.window) s ss (source_within s prefix h)
+    (sources_within ss back others)
 
-query_within : (q : Query) (ks : List TokenKind) → IsQuery q ks → All (λ (s : SourceDecl). IsWindow s.window) q.sources
+query_within : (q : Query) (ks : List TokenKind) → IsQuery q ks
+    → All (λ (s : SourceDecl). IsWindow s.window) q.sources
 query_within q ks (query p ss ps sources plan) = sources_within p.sources ss sources
 
-pub windows_within : (q : Query) → HasText q → All (λ (s : SourceDecl). IsWindow s.window) q.sources
+pub windows_within : (q : Query) → HasQueryText q → All (λ (s : SourceDecl). IsWindow s.window)
+    q.sources
 windows_within q text = query_within q text.1.text.spells.0 text.1.text.spells.1.named.spells

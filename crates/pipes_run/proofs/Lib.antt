@@ -1,6 +1,6 @@
 pub mod Causes
 pub mod Queries
-pub mod Fronts
+pub mod Prefixes
 pub mod Nothing
 pub mod Composing
 pub mod Answering

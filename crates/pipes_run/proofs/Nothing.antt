@@ -2,18 +2,20 @@
 use Rattle.std.proofs.Common.{List, [], ◌∷◌, Some, refl, inl}
 use Rattle.pipes_window.specs.declared.item.Item.{Item}
 use Rattle.pipes_feed.specs.Items.{Items}
-use Rattle.pipes_fault.specs.Fault.{Fault, Words, QueryText, QueryType, Unbuilt, Missing, ReadFile, ReadSource, Row, Limit, Write, Memory}
-use Rattle.pipes_run.proofs.Fronts.{front_nothing}
+use Rattle.pipes_error.specs.Fault.{Fault, Words, QueryText, QueryType, Unbuilt, Missing, ReadFile}
+use Rattle.pipes_error.specs.Fault.{ReadSource, Row, Limit, Write, Memory}
+use Rattle.pipes_run.proofs.Prefixes.{prefix_nothing}
 use Rattle.pipes_run.specs.Asked.{Job, RunOver, AnswerAt, PrintOf}
-use Rattle.pipes_run.specs.Outcome.{AreFronts, Does}
+use Rattle.pipes_run.specs.Outcome.{ArePrefixes, Does}
 use Rattle.pipes_run.specs.Seen.{IsFree}
 
-nothing_taken : (items : List Items) → (taken : List (List Item)) × AreFronts items taken
+nothing_taken : (items : List Items) → (taken : List (List Item)) × ArePrefixes items taken
 nothing_taken [] = ([], tt)
 nothing_taken (i ∷ is) = let rest = nothing_taken is in ([] ∷ rest.0, ((0, refl), rest.1))
 
 pub does_nothing : (job : Job) (fault : Fault) → IsFree fault → Does job (Some fault) []
-does_nothing (RunOver form query items) Memory h = let t = nothing_taken items in (t.0, t.1, front_nothing form query t.0)
+does_nothing (RunOver form query items) Memory h = let t = nothing_taken items in
+    (t.0, t.1, prefix_nothing form query t.0)
 does_nothing (AnswerAt query items t) Memory h = inl refl
 does_nothing (PrintOf query) Memory h = (0, refl)
 does_nothing (RunOver form query items) (ReadFile name) h = refl

@@ -1,24 +1,29 @@
 -- A run, from what its script and its sources gave.
-use Rattle.std.proofs.Common.{◌≡◌, ◌⊎◌, ℕ, ◌≤◌, List, [], true, Option, Some, None, Result, Ok, Err, refl, sym, subst, ◌∙◌, inl, inr}
+use Rattle.std.proofs.Common.{◌≡◌, ◌⊎◌, ℕ, ◌≤◌, List, [], true, Option, Some, None, Result, Ok, Err}
+use Rattle.std.proofs.Common.{refl, sym, subst, ◌∙◌, inl, inr}
 use Rattle.std.proofs.KnownBytes.{Appends-nil}
 use Rattle.pipes_edge.specs.Outside.{Names, NoneFalls}
 use Rattle.pipes_edge.specs.Causes.{Rose}
 use Rattle.pipes_output.specs.declared.form.Form.{Form}
-use Rattle.pipes_words.specs.Command.{Run}
+use Rattle.pipes_args.specs.Command.{Run}
 use Rattle.pipes_query.specs.declared.query.Query.{Query}
-use Rattle.pipes_fault.specs.Fault.{Fault, Words, QueryText, QueryType, Unbuilt, Missing, ReadFile, ReadSource, Row, Limit, Write, Memory}
+use Rattle.pipes_error.specs.Fault.{Fault, Words, QueryText, QueryType, Unbuilt, Missing, ReadFile}
+use Rattle.pipes_error.specs.Fault.{ReadSource, Row, Limit, Write, Memory}
 use Rattle.pipes_single.specs.Served.{is_served}
-use Rattle.pipes_at.specs.Whole.{◌>>=◌}
-use Rattle.pipes_run.specs.Asked.{Job, RunOver, items_in, job_of, no_commands}
-use Rattle.pipes_run.specs.Outcome.{Counts, DoesAsked, HasCause, RanAfter}
+use Rattle.pipes_answer.specs.Whole.{◌>>=◌}
+use Rattle.pipes_run.specs.Asked.{Job, RunOver, items_in, job_of, is_empty_script}
+use Rattle.pipes_run.specs.Outcome.{FaultCounts, DoesAsked, HasCallCause, RanAfter}
 use Rattle.pipes_run.specs.Running.{RanOver, HasCauseOver, IsOfScript, IsOfRun}
 use Rattle.pipes_run.specs.Seen.{IsFree, IsReadOf}
 use Rattle.pipes_run.proofs.Causes.{rose_before}
 use Rattle.pipes_run.proofs.Composing.{quiet_of}
 use Rattle.pipes_run.proofs.Running.{free_asked}
 
-asked_by : (name script : List ℕ) (form : Form) (files : Names) (query : Query) (given : Result (Unit {0}) Fault) → is_served query ≡ true → no_commands files script ≡ given
-    → job_of (Run name script form) files query ≡ (given >>= λ one. items_in files query.sources >>= λ items. Ok (RunOver form query items))
+asked_by : (name script : List ℕ) (form : Form) (files : Names) (query : Query)
+    (given : Result (Unit {0}) Fault) → is_served query ≡ true
+    → is_empty_script files script ≡ given
+    → job_of (Run name script form) files query ≡ (given >>= λ one. items_in files query.sources
+    >>= λ items. Ok (RunOver form query items))
 asked_by name script form files query given served is = rw (served, is) refl
 
 -- ---- the script was refused
@@ -36,9 +41,13 @@ not_words (Limit source line) h e = cc
 not_words Write h e = cc
 not_words Memory h e = cc
 
-script_cause : (name script : List ℕ) (form : Form) (before now : Counts) (fault : Fault) → IsOfScript fault → IsReadOf script before.files now.files fault → HasCause (Some (Run name script form)) before now (Some fault)
-script_cause name script form before now (ReadFile file) of cause =
-    (subst (λ (f : List ℕ). Rose (before.files f) (now.files f)) (sym cause.0) cause.1, inr (inl cause.0))
+script_cause : (name script : List ℕ) (form : Form) (before now : FaultCounts) (fault : Fault)
+    → IsOfScript fault → IsReadOf script before.files now.files fault
+    → HasCallCause (Some (Run name script form)) before now (Some fault)
+script_cause name script form before now (ReadFile file) of cause = (
+  subst (λ (f : List ℕ). Rose (before.files f) (now.files f)) (sym cause.0) cause.1,
+  inr (inl cause.0),
+)
 script_cause name script form before now Words of cause = tt
 script_cause name script form before now (QueryText r) of cause = tt
 script_cause name script form before now (QueryType r) of cause = tt
@@ -63,21 +72,26 @@ refused_asked (Limit source line) h = absurd h
 refused_asked Write h = absurd h
 refused_asked Memory h = refl
 
-pub script_refused : (name script : List ℕ) (form : Form) (query : Query) (told : Option Names) (before now : Counts) (written : Option (List ℕ)) (fault : Fault)
+pub script_refused : (name script : List ℕ) (form : Form) (query : Query) (known : Option Names)
+    (before now : FaultCounts) (written : Option (List ℕ)) (fault : Fault)
     → is_served query ≡ true → IsOfScript fault → IsReadOf script before.files now.files fault
-    → ((files : Names) → told ≡ Some files → (no_commands files script ≡ Err fault) ⊎ IsFree fault)
-    → RanAfter (Run name script form) query told before now written written (Some fault)
-script_refused name script form query told before now written fault served of cause gives = record {
-  wrote = [];
-  appended = Appends-nil written;
-  served = not_words fault of;
-  cause = script_cause name script form before now fault of cause;
-  quiet = quiet_of fault;
-  does = λ files tells. does files (gives files tells);
-}
+    → ((files : Names) → known ≡ Some files → (is_empty_script files script ≡ Err fault)
+    ⊎ IsFree fault)
+    → RanAfter (Run name script form) query known before now written written (Some fault)
+script_refused name script form query known before now written fault served of cause gives =
+    record {
+      wrote = [];
+      appended = Appends-nil written;
+      served = not_words fault of;
+      cause = script_cause name script form before now fault of cause;
+      quiet = quiet_of fault;
+      does = λ files tells. does files (gives files tells);
+    }
   where
-    does : (files : Names) → (no_commands files script ≡ Err fault) ⊎ IsFree fault → DoesAsked (job_of (Run name script form) files query) (Some fault) []
-    does files (inl is) = subst (λ (asked : Result Job Fault). DoesAsked asked (Some fault) []) (sym (asked_by name script form files query (Err fault) served is)) (refused_asked fault of)
+    does : (files : Names) → (is_empty_script files script ≡ Err fault) ⊎ IsFree fault
+        → DoesAsked (job_of (Run name script form) files query) (Some fault) []
+    does files (inl is) = subst (λ (asked : Result Job Fault). DoesAsked asked (Some fault) [])
+        (sym (asked_by name script form files query (Err fault) served is)) (refused_asked fault of)
     does files (inr free) = free_asked (job_of (Run name script form) files query) fault free
 
 -- ---- the script is empty
@@ -85,31 +99,25 @@ script_refused name script form query told before now written fault served of ca
 run_not_words : (fault : Option Fault) → IsOfRun fault → fault ≡ Some Words → ⊥
 run_not_words fault of e = subst (λ (f : Option Fault). IsOfRun f) e of
 
-run_cause : (name script : List ℕ) (form : Form) (before mid now : Counts) (fault : Option Fault) → NoneFalls before.files mid.files → before.searches ≤ mid.searches → before.out ≡ mid.out
-    → HasCauseOver mid now fault → HasCause (Some (Run name script form)) before now fault
-run_cause name script form before mid now (Some (ReadFile file)) later searches same cause =
-    (rose_before (before.files file) (mid.files file) (now.files file) (later file) cause.0, inr (inr (rose_before before.searches mid.searches now.searches searches cause.1)))
-run_cause name script form before mid now (Some (ReadSource file)) later searches same cause = rose_before (before.files file) (mid.files file) (now.files file) (later file) cause
-run_cause name script form before mid now (Some Write) later searches same cause = subst (λ (n : ℕ). Rose n now.out) (sym same) cause
+run_cause : (name script : List ℕ) (form : Form) (before mid now : FaultCounts)
+    (fault : Option Fault)
+    → NoneFalls before.files mid.files → before.searches ≤ mid.searches → before.out ≡ mid.out
+    → HasCauseOver mid now fault → HasCallCause (Some (Run name script form)) before now fault
+run_cause name script form before mid now (Some (ReadFile file)) later searches same cause = (
+  rose_before (before.files file) (mid.files file) (now.files file) (later file) cause.0,
+  inr (inr (rose_before before.searches mid.searches now.searches searches cause.1)),
+)
+run_cause name script form before mid now (Some (ReadSource file)) later searches same cause =
+    rose_before (before.files file) (mid.files file) (now.files file) (later file) cause
+run_cause name script form before mid now (Some Write) later searches same cause =
+    subst (λ (n : ℕ). Rose n now.out) (sym same) cause
 run_cause name script form before mid now (Some Words) later searches same cause = tt
 run_cause name script form before mid now (Some (QueryText r)) later searches same cause = tt
 run_cause name script form before mid now (Some (QueryType r)) later searches same cause = tt
 run_cause name script form before mid now (Some Unbuilt) later searches same cause = tt
 run_cause name script form before mid now (Some (Missing file)) later searches same cause = tt
-run_cause name script form before mid now (Some (Row source line why)) later searches same cause = tt
+run_cause name script form before mid now (Some (Row source line why)) later searches same cause =
+    tt
 run_cause name script form before mid now (Some (Limit source line)) later searches same cause = tt
 run_cause name script form before mid now (Some Memory) later searches same cause = tt
 run_cause name script form before mid now None later searches same cause = tt
-
-pub script_empty : (name script : List ℕ) (form : Form) (query : Query) (told mid_told : Option Names) (before mid now : Counts) (first last : Option (List ℕ)) (fault : Option Fault)
-    → is_served query ≡ true → mid_told ≡ told → NoneFalls before.files mid.files → before.searches ≤ mid.searches → before.out ≡ mid.out
-    → ((files : Names) → told ≡ Some files → no_commands files script ≡ Ok tt)
-    → RanOver form query mid_told mid now first last fault → RanAfter (Run name script form) query told before now first last fault
-script_empty name script form query told mid_told before mid now first last fault served same later searches out empty ran = record {
-  wrote = ran.wrote;
-  appended = ran.appended;
-  served = run_not_words fault ran.served;
-  cause = run_cause name script form before mid now fault later searches out ran.cause;
-  quiet = ran.quiet;
-  does = λ files tells. subst (λ (asked : Result Job Fault). DoesAsked asked fault ran.wrote) (sym (asked_by name script form files query (Ok tt) served (empty files tells))) (ran.does files (same ∙ tells));
-}

@@ -1,50 +1,58 @@
 -- What the words of a call and the files ask for.
-use Rattle.std.specs.Prelude.{◌≡◌, ℕ, List, [], ◌∷◌, length, ◌==◌, if◌then◌else◌, Option, Some, None, Result, Ok, Err}
+use Rattle.std.specs.Prelude.{◌≡◌, ℕ, List, [], ◌∷◌, length, ◌==◌, if◌then◌else◌, Option, Some}
+use Rattle.std.specs.Prelude.{None, Result, Ok, Err}
 use Rattle.std.specs.Option.{ok_or}
 use Rattle.pipes_edge.specs.Outside.{Names}
-use Rattle.pipes_plan.specs.Refusals.{Checks, refusals, first_of}
+use Rattle.pipes_expr.specs.ExprWhys.{first_of}
+use Rattle.pipes_plan.specs.Refusals.{Checks, refusals}
 use Rattle.pipes_window.specs.declared.item.Item.{Item}
 use Rattle.pipes_output.specs.declared.form.Form.{Form}
-use Rattle.pipes_words.specs.Command.{Command, Run, At, Check}
+use Rattle.pipes_args.specs.Command.{Command, Run, At, Check}
 use Rattle.pipes_feed.specs.Items.{Items, items_of}
 use Rattle.pipes_query.specs.declared.query.Query.{Query}
 use Rattle.pipes_query.specs.declared.query.SourceDecl.{SourceDecl}
 use Rattle.pipes_text.specs.Texts.{IsFileOfQuery}
 use Rattle.pipes_text.specs.Texts.{IsRefusedQuery}
-use Rattle.pipes_meaning.specs.Answer.{schemas_of}
-use Rattle.pipes_fault.specs.Fault.{Fault, Words, QueryText, QueryType, Unbuilt, Missing, ReadFile, ReadSource, Row, Limit, Write, Memory}
+use Rattle.pipes_semantics.specs.Answer.{schemas_of}
+use Rattle.pipes_error.specs.Fault.{Fault, Words, QueryText, QueryType, Unbuilt, Missing, ReadFile}
+use Rattle.pipes_error.specs.Fault.{ReadSource, Row, Limit, Write, Memory}
 use Rattle.pipes_single.specs.Served.{is_served}
-use Rattle.pipes_at.specs.Whole.{◌>>=◌, whole_items}
+use Rattle.pipes_answer.specs.Whole.{◌>>=◌, whole_items}
 
--- What there is to do: a run in a form over the items of its sources; the answer at an instant over all items; or the print of a query that checks.
+-- What there is to do: a run in a form over the items of its sources; the answer at an instant over
+-- all items; or the print of a query that checks.
 pub data Job : Type 0 where
   RunOver : Form → Query → List Items → Job
   AnswerAt : Query → List (List Item) → ℕ → Job
   PrintOf : Query → Job
 
--- The query that the bytes write and that checks, or why there is none: the text is refused, or the first node of its plan that is.
-abbrev pub Writes : List ℕ → Result Query Fault → Type 0
-Writes bytes (Ok query) = IsFileOfQuery query bytes × Checks (schemas_of query) query.plan
-Writes bytes (Err (QueryText refusal)) = IsRefusedQuery bytes refusal
-Writes bytes (Err (QueryType refusal)) = (query : Query) × IsFileOfQuery query bytes × (first_of (refusals (schemas_of query) query.plan) ≡ Some refusal)
-Writes bytes (Err Words) = ⊥
-Writes bytes (Err Unbuilt) = ⊥
-Writes bytes (Err (Missing name)) = ⊥
-Writes bytes (Err (ReadFile name)) = ⊥
-Writes bytes (Err (ReadSource name)) = ⊥
-Writes bytes (Err (Row source line why)) = ⊥
-Writes bytes (Err (Limit source line)) = ⊥
-Writes bytes (Err Write) = ⊥
-Writes bytes (Err Memory) = ⊥
+-- The query that the bytes write and that checks, or why there is none: the text is refused, or the
+-- first node of its plan that is.
+abbrev pub IsQueryText : List ℕ → Result Query Fault → Type 0
+IsQueryText bytes (Ok query) = IsFileOfQuery query bytes × Checks (schemas_of query) query.plan
+IsQueryText bytes (Err (QueryText refusal)) = IsRefusedQuery bytes refusal
+IsQueryText bytes (Err (QueryType refusal)) = (query : Query) × IsFileOfQuery query bytes
+    × (first_of (refusals (schemas_of query) query.plan) ≡ Some refusal)
+IsQueryText bytes (Err Words) = ⊥
+IsQueryText bytes (Err Unbuilt) = ⊥
+IsQueryText bytes (Err (Missing name)) = ⊥
+IsQueryText bytes (Err (ReadFile name)) = ⊥
+IsQueryText bytes (Err (ReadSource name)) = ⊥
+IsQueryText bytes (Err (Row source line why)) = ⊥
+IsQueryText bytes (Err (Limit source line)) = ⊥
+IsQueryText bytes (Err Write) = ⊥
+IsQueryText bytes (Err Memory) = ⊥
 
 -- the same of the file with this name
-abbrev pub Holds : List ℕ → Option (List ℕ) → Result Query Fault → Type 0
-Holds name None query = query ≡ Err (Missing name)
-Holds name (Some bytes) query = Writes bytes query
+abbrev pub IsQueryFile : List ℕ → Option (List ℕ) → Result Query Fault → Type 0
+IsQueryFile name None query = query ≡ Err (Missing name)
+IsQueryFile name (Some bytes) query = IsQueryText bytes query
 
 -- an empty script, of the file with the name
-abbrev pub no_commands : Names → List ℕ → Result (Unit {0}) Fault
-no_commands files name = ok_or (files name) (Missing name) >>= λ bytes. if length bytes == 0 then Ok tt else Err Unbuilt
+abbrev pub is_empty_script : Names → List ℕ → Result (Unit {0}) Fault
+is_empty_script files name = ok_or (files name) (Missing name)
+    >>= λ bytes. if length bytes == 0 then Ok
+    tt else Err Unbuilt
 
 -- a plan that is served
 abbrev pub served : Query → Result (Unit {0}) Fault
@@ -68,7 +76,7 @@ query_name (Check query) = query
 abbrev pub job_of : Command → Names → Query → Result Job Fault
 job_of (Run name script form) files query = do
   one ← served query
-  nothing ← no_commands files script
+  nothing ← is_empty_script files script
   items ← items_in files query.sources
   Ok (RunOver form query items)
 job_of (At name time) files query = do
@@ -78,7 +86,8 @@ job_of (Check name) files query = Ok (PrintOf query)
 
 -- what a command asks for: the query comes first
 abbrev pub Asks : Command → Names → Result Job Fault → Type 0
-Asks command files job = (query : Result Query Fault) × Holds (query_name command) (files (query_name command)) query × (job ≡ (query >>= job_of command files))
+Asks command files job = (query : Result Query Fault) × IsQueryFile (query_name command)
+    (files (query_name command)) query × (job ≡ (query >>= job_of command files))
 
 -- what the words ask for
 abbrev pub AsksWords : Option Command → Names → Result Job Fault → Type 0

@@ -1,5 +1,6 @@
 -- What a call does: the fault that it ends with, what it writes, and what it says of the fault.
-use Rattle.std.specs.Prelude.{◌≡◌, ◌⊎◌, ◌↔◌, ℕ, List, [], ◌∷◌, ◌++◌, take, map, flat_map, Option, Some, None, Result, Ok, Err, ⊤, codes}
+use Rattle.std.specs.Prelude.{◌≡◌, ◌⊎◌, ◌↔◌, ℕ, List, [], ◌∷◌, ◌++◌, take, map, flat_map, Option}
+use Rattle.std.specs.Prelude.{Some, None, Result, Ok, Err, ⊤, codes}
 use Rattle.std.specs.List.{All}
 use Rattle.std.specs.List.Sorted.{IsSorted}
 use Rattle.std.specs.Io.KnownBytes.{Appends}
@@ -9,23 +10,26 @@ use Rattle.pipes_tuple.specs.declared.value.Kind.{Kind}
 use Rattle.pipes_tuple.specs.declared.value.Value.{Value}
 use Rattle.pipes_tuple.specs.Bag.{SameBag}
 use Rattle.pipes_tuple.specs.Order.{tuple_cmp}
+use Rattle.pipes_tuple.specs.Kinds.{kind_word}
 use Rattle.pipes_window.specs.declared.item.Item.{Item}
 use Rattle.pipes_output.specs.declared.entry.Entry.TheVariants.{Ended, Stopped}
-use Rattle.pipes_words.specs.Command.{Command, Run, command_of}
+use Rattle.pipes_args.specs.Command.{Command, Run, command_of}
 use Rattle.pipes_feed.specs.declared.reason.Reason.{Reason}
 use Rattle.pipes_feed.specs.declared.reason.Reason.TheVariants as reason
 use Rattle.pipes_feed.specs.Items.{Items}
 use Rattle.pipes_query.specs.declared.query.Query.{Query}
 use Rattle.pipes_query.specs.declared.query.SourceDecl.{SourceDecl}
-use Rattle.pipes_text.specs.Printing.{query_text, kind_text}
-use Rattle.pipes_meaning.specs.Answer.{answer, schema_of}
-use Rattle.pipes_meaning.specs.Run.{WritesRun, WritesRunFront}
-use Rattle.pipes_at.specs.Lines.{tuple_lines}
-use Rattle.pipes_fault.specs.Fault.{Fault, Words, QueryText, QueryType, Unbuilt, Missing, ReadFile, ReadSource, Row, Limit, Write, Memory, status_of, fault_line, Given, Says}
+use Rattle.pipes_text.specs.Printing.{query_text}
+use Rattle.pipes_semantics.specs.Answer.{answer, schema_of}
+use Rattle.pipes_semantics.specs.Run.{WritesRun, WritesRunPrefix}
+use Rattle.pipes_answer.specs.Lines.{tuple_lines}
+use Rattle.pipes_error.specs.Fault.{Fault, Words, QueryText, QueryType, Unbuilt, Missing, ReadFile}
+use Rattle.pipes_error.specs.Fault.{ReadSource, Row, Limit, Write, Memory, status_of, fault_line}
+use Rattle.pipes_error.specs.Fault.{Given, WritesLine}
 use Rattle.pipes_run.specs.Asked.{Job, RunOver, AnswerAt, PrintOf, job_of, AsksWords, Asks}
 
 abbrev pub kind_part : Kind → List ℕ
-kind_part kind = codes " " ++ kind_text kind
+kind_part kind = codes " " ++ kind_word kind
 
 -- the kinds of a query's result, each after one space
 abbrev pub kinds_line : List Kind → List ℕ
@@ -43,15 +47,16 @@ lists_of items = map (λ i. i.list) items
 abbrev pub AllEnd : List Items → Type 0
 AllEnd items = All (λ i. i.end ≡ reason.AtEnd) items
 
--- of each source a front of its items was taken
-abbrev pub AreFronts : List Items → List (List Item) → Type 0
-AreFronts [] [] = ⊤
-AreFronts (i ∷ is) (t ∷ ts) = ((n : ℕ) × (t ≡ take n i.list)) × AreFronts is ts
-AreFronts _ _ = ⊥
+-- of each source a prefix of its items was taken
+abbrev pub ArePrefixes : List Items → List (List Item) → Type 0
+ArePrefixes [] [] = ⊤
+ArePrefixes (i ∷ is) (t ∷ ts) = ((n : ℕ) × (t ≡ take n i.list)) × ArePrefixes is ts
+ArePrefixes _ _ = ⊥
 
 -- the items of the source with this name end so, and all of them were taken
 abbrev pub StoppedAt : List SourceDecl → List Items → List (List Item) → List ℕ → Reason → Type 0
-StoppedAt (s ∷ ss) (i ∷ is) (t ∷ ts) name why = ((s.name ≡ name) × (i.end ≡ why) × (t ≡ i.list)) ⊎ StoppedAt ss is ts name why
+StoppedAt (s ∷ ss) (i ∷ is) (t ∷ ts) name why = ((s.name ≡ name) × (i.end ≡ why) × (t ≡ i.list))
+    ⊎ StoppedAt ss is ts name why
 StoppedAt _ _ _ name why = ⊥
 
 -- one of the sources has its rows in this file
@@ -61,28 +66,41 @@ IsFileOf (s ∷ ss) file = (s.file ≡ file) ⊎ IsFileOf ss file
 
 -- what an answer at an instant writes
 abbrev pub WritesAnswer : Query → List (List Item) → ℕ → List ℕ → Type 0
-WritesAnswer query items t bytes = (rows : List (List Value)) × (bytes ≡ tuple_lines rows) × IsSorted tuple_cmp rows × SameBag rows (answer query items t)
+WritesAnswer query items t bytes = (rows : List (List Value)) × (bytes ≡ tuple_lines rows)
+    × IsSorted tuple_cmp rows × SameBag rows (answer query items t)
 
 -- a job that was done, or stopped by a fault, and what it has written then
 abbrev pub Does : Job → Option Fault → List ℕ → Type 0
-Does (RunOver form query items) None bytes = AllEnd items × WritesRun form query (lists_of items) Ended bytes
+Does (RunOver form query items) None bytes = AllEnd items × WritesRun form query (lists_of items)
+    Ended bytes
 Does (RunOver form query items) (Some (Row source line why)) bytes =
-    (taken : List (List Item)) × AreFronts items taken × StoppedAt query.sources items taken source (reason.Row line why) × WritesRun form query taken Stopped bytes
+    (taken : List (List Item)) × ArePrefixes items taken × StoppedAt query.sources items taken
+    source
+    (reason.Row line why) × WritesRun form query taken Stopped bytes
 Does (RunOver form query items) (Some (Limit source line)) bytes =
-    (taken : List (List Item)) × AreFronts items taken × StoppedAt query.sources items taken source (reason.Limit line) × WritesRun form query taken Stopped bytes
-Does (RunOver form query items) (Some (ReadSource file)) bytes = (taken : List (List Item)) × AreFronts items taken × IsFileOf query.sources file × WritesRun form query taken Stopped bytes
-Does (RunOver form query items) (Some Write) bytes = (taken : List (List Item)) × AreFronts items taken × WritesRunFront form query taken bytes
-Does (RunOver form query items) (Some Memory) bytes = (taken : List (List Item)) × AreFronts items taken × WritesRunFront form query taken bytes
+    (taken : List (List Item)) × ArePrefixes items taken × StoppedAt query.sources items taken
+    source
+    (reason.Limit line) × WritesRun form query taken Stopped bytes
+Does (RunOver form query items) (Some (ReadSource file)) bytes = (taken : List (List Item))
+    × ArePrefixes items taken × IsFileOf query.sources file × WritesRun form query taken Stopped
+    bytes
+Does (RunOver form query items) (Some Write) bytes = (taken : List (List Item))
+    × ArePrefixes items taken × WritesRunPrefix form query taken bytes
+Does (RunOver form query items) (Some Memory) bytes = (taken : List (List Item))
+    × ArePrefixes items taken × WritesRunPrefix form query taken bytes
 Does (AnswerAt query items t) None bytes = WritesAnswer query items t bytes
-Does (AnswerAt query items t) (Some Write) bytes = (whole : List ℕ) × (n : ℕ) × WritesAnswer query items t whole × (bytes ≡ take n whole)
-Does (AnswerAt query items t) (Some Memory) bytes = (bytes ≡ []) ⊎ ((whole : List ℕ) × (n : ℕ) × WritesAnswer query items t whole × (bytes ≡ take n whole))
+Does (AnswerAt query items t) (Some Write) bytes = (whole : List ℕ) × (n : ℕ)
+    × WritesAnswer query items t whole × (bytes ≡ take n whole)
+Does (AnswerAt query items t) (Some Memory) bytes = (bytes ≡ [])
+    ⊎ ((whole : List ℕ) × (n : ℕ) × WritesAnswer query items t whole × (bytes ≡ take n whole))
 Does (PrintOf query) None bytes = bytes ≡ checked_text query
 Does (PrintOf query) (Some Write) bytes = (n : ℕ) × (bytes ≡ take n (checked_text query))
 Does (PrintOf query) (Some Memory) bytes = (n : ℕ) × (bytes ≡ take n (checked_text query))
 Does job (Some (ReadFile name)) bytes = bytes ≡ []
 Does job fault bytes = ⊥
 
--- What was asked for was done; or what the words and the files refuse was refused, but for a failed read and want of memory on the way there.
+-- What was asked for was done; or what the words and the files refuse was refused, but for a failed
+-- read and out of memory on the way there.
 abbrev pub DoesAsked : Result Job Fault → Option Fault → List ℕ → Type 0
 DoesAsked (Ok job) fault bytes = Does job fault bytes
 DoesAsked (Err refused) None bytes = ⊥
@@ -92,7 +110,7 @@ DoesAsked (Err refused) (Some (ReadFile name)) bytes = bytes ≡ []
 DoesAsked (Err refused) (Some Memory) bytes = bytes ≡ []
 DoesAsked (Err refused) (Some fault) bytes = (refused ≡ fault) × (bytes ≡ [])
 
--- a failed read, or want of memory, before anything was written
+-- a failed read, or out of memory, before anything was written
 abbrev pub StopsFirst : Option Fault → List ℕ → Type 0
 StopsFirst (Some (ReadFile name)) bytes = bytes ≡ []
 StopsFirst (Some Memory) bytes = bytes ≡ []
@@ -100,71 +118,85 @@ StopsFirst fault bytes = ⊥
 
 -- what fails before a run: the query's file, the script's, or the search for a source's
 abbrev pub IsEarly : Option Command → List ℕ → ℕ → ℕ → Type 0
-IsEarly (Some (Run query script form)) name before now = (name ≡ query) ⊎ (name ≡ script) ⊎ Rose before now
+IsEarly (Some (Run query script form)) name before now = (name ≡ query) ⊎ (name ≡ script)
+    ⊎ Rose before now
 IsEarly _ name before now = ⊤
 
 -- the counts of faults of files by their names, of failed searches, and of the output
-pub record Counts : Type 0 where
+pub record FaultCounts : Type 0 where
   pub files : List ℕ → ℕ
   pub searches : ℕ
   pub out : ℕ
 
--- a read fails only where the count of its file's name rose, and a write where that of the output did
-abbrev pub HasCause : Option Command → Counts → Counts → Option Fault → Type 0
-HasCause command before now (Some (ReadFile name)) = Rose (before.files name) (now.files name) × IsEarly command name before.searches now.searches
-HasCause command before now (Some (ReadSource file)) = Rose (before.files file) (now.files file)
-HasCause command before now (Some Write) = Rose before.out now.out
-HasCause command before now fault = ⊤
+-- a read fails only where the count of its file's name rose, and a write where that of the output
+-- did
+abbrev pub HasCallCause : Option Command → FaultCounts → FaultCounts → Option Fault → Type 0
+HasCallCause command before now (Some (ReadFile name)) = Rose (before.files name) (now.files name)
+    × IsEarly command name before.searches now.searches
+HasCallCause command before now (Some (ReadSource file)) = Rose (before.files file) (now.files file)
+HasCallCause command before now (Some Write) = Rose before.out now.out
+HasCallCause command before now fault = ⊤
 
 -- nothing is written with a fault from before the run, whatever the files tell
-abbrev pub IsQuiet : Option Fault → List ℕ → Type 0
-IsQuiet (Some Words) bytes = bytes ≡ []
-IsQuiet (Some (QueryText refusal)) bytes = bytes ≡ []
-IsQuiet (Some (QueryType refusal)) bytes = bytes ≡ []
-IsQuiet (Some Unbuilt) bytes = bytes ≡ []
-IsQuiet (Some (Missing name)) bytes = bytes ≡ []
-IsQuiet (Some (ReadFile name)) bytes = bytes ≡ []
-IsQuiet fault bytes = ⊤
+abbrev pub WritesNothing : Option Fault → List ℕ → Type 0
+WritesNothing (Some Words) bytes = bytes ≡ []
+WritesNothing (Some (QueryText refusal)) bytes = bytes ≡ []
+WritesNothing (Some (QueryType refusal)) bytes = bytes ≡ []
+WritesNothing (Some Unbuilt) bytes = bytes ≡ []
+WritesNothing (Some (Missing name)) bytes = bytes ≡ []
+WritesNothing (Some (ReadFile name)) bytes = bytes ≡ []
+WritesNothing fault bytes = ⊤
 
 -- what a command does
-pub record RanCommand (command : Command) (told : Option Names) (before now : Counts) (written_before written_now : Option (List ℕ)) (fault : Option Fault) : Type 0 where
+pub record RanCommand (command : Command) (known : Option Names) (before now : FaultCounts)
+    (written_before written_now : Option (List ℕ)) (fault : Option Fault) : Type 0 where
   pub wrote : List ℕ
   pub appended : Appends written_before written_now wrote
   pub served : fault ≡ Some Words → ⊥
-  pub cause : HasCause (Some command) before now fault
-  pub quiet : IsQuiet fault wrote
-  -- it was stopped before anything was done, or did what the command and the told files ask for
-  pub does : (files : Names) → told ≡ Some files → StopsFirst fault wrote ⊎ ((job : Result Job Fault) × Asks command files job × DoesAsked job fault wrote)
+  pub cause : HasCallCause (Some command) before now fault
+  pub quiet : WritesNothing fault wrote
+  -- it was stopped before anything was done, or did what the command and the known files ask for
+  pub does : (files : Names) → known ≡ Some files → StopsFirst fault wrote
+      ⊎ ((job : Result Job Fault) × Asks command files job × DoesAsked job fault wrote)
   -- and where they ask for a job, it is that job and no other
-  pub only : (files : Names) (job : Job) → told ≡ Some files → Asks command files (Ok job) → Does job fault wrote
+  pub only : (files : Names) (job : Job) → known ≡ Some files → Asks command files (Ok job)
+      → Does job fault wrote
 
 -- what a command does once its query is read
-pub record RanAfter (command : Command) (query : Query) (told : Option Names) (before now : Counts) (written_before written_now : Option (List ℕ)) (fault : Option Fault) : Type 0 where
+pub record RanAfter (command : Command) (query : Query) (known : Option Names)
+    (before now : FaultCounts)
+    (written_before written_now : Option (List ℕ)) (fault : Option Fault) : Type 0 where
   pub wrote : List ℕ
   pub appended : Appends written_before written_now wrote
   pub served : fault ≡ Some Words → ⊥
-  pub cause : HasCause (Some command) before now fault
-  pub quiet : IsQuiet fault wrote
-  pub does : (files : Names) → told ≡ Some files → DoesAsked (job_of command files query) fault wrote
+  pub cause : HasCallCause (Some command) before now fault
+  pub quiet : WritesNothing fault wrote
+  pub does : (files : Names) → known ≡ Some files → DoesAsked (job_of command files query) fault
+      wrote
 
 -- what a call does before it tells of its fault
-pub record Ran (words : List (List ℕ)) (told : Option Names) (before now : Counts) (written_before written_now : Option (List ℕ)) (fault : Option Fault) : Type 0 where
+pub record DidCommand (words : List (List ℕ)) (known : Option Names) (before now : FaultCounts)
+    (written_before written_now : Option (List ℕ)) (fault : Option Fault) : Type 0 where
   pub wrote : List ℕ
   pub appended : Appends written_before written_now wrote
   pub refused : (fault ≡ Some Words) ↔ (command_of words ≡ None)
-  pub cause : HasCause (command_of words) before now fault
-  pub quiet : IsQuiet fault wrote
-  -- it was stopped before anything was done, or did what the words and the told files ask for
-  pub does : (files : Names) → told ≡ Some files → StopsFirst fault wrote ⊎ ((job : Result Job Fault) × AsksWords (command_of words) files job × DoesAsked job fault wrote)
+  pub cause : HasCallCause (command_of words) before now fault
+  pub quiet : WritesNothing fault wrote
+  -- it was stopped before anything was done, or did what the words and the known files ask for
+  pub does : (files : Names) → known ≡ Some files → StopsFirst fault wrote
+      ⊎ ((job : Result Job Fault) × AsksWords (command_of words) files job
+      × DoesAsked job fault wrote)
   -- and where they ask for a job, it is that job and no other
-  pub only : (files : Names) (job : Job) → told ≡ Some files → AsksWords (command_of words) files (Ok job) → Does job fault wrote
+  pub only : (files : Names) (job : Job) → known ≡ Some files
+      → AsksWords (command_of words) files (Ok job) → Does job fault wrote
 
 -- the whole call
-pub record Call (words : List (List ℕ)) (told : Option Names) (before now : Counts) (out err : Given) (status : ℕ) : Type 0 where
+pub record Call (words : List (List ℕ)) (known : Option Names) (before now : FaultCounts)
+    (out err : Given) (status : ℕ) : Type 0 where
   pub fault : Option Fault
   pub status_is : status ≡ status_of fault
-  pub ran : Ran words told before now out.written_before out.written_now fault
-  pub says : Says (fault_line fault) err
+  pub ran : DidCommand words known before now out.written_before out.written_now fault
+  pub says : WritesLine (fault_line fault) err
 
 -- a job that no source's lines stop
 abbrev pub IsWhole : Job → Type 0
@@ -172,8 +204,12 @@ IsWhole (RunOver form query items) = AllEnd items
 IsWhole (AnswerAt query items t) = ⊤
 IsWhole (PrintOf query) = ⊤
 
--- Words and told files that ask for a job, with no count rising, give the status of success or that of want of memory.
-abbrev pub IsComplete : List (List ℕ) → Option Names → Counts → Counts → ℕ → Type 0
-IsComplete words told before now status =
-    (files : Names) (job : Job) → told ≡ Some files → AsksWords (command_of words) files (Ok job) → IsWhole job
-    → ((name : List ℕ) → ¬ (Rose (before.files name) (now.files name))) → ¬ (Rose before.out now.out) → (status ≡ 0) ⊎ (status ≡ 6)
+-- Words and known files that ask for a job, with no count rising, give the status of success or
+-- that
+-- of out of memory.
+abbrev pub IsComplete : List (List ℕ) → Option Names → FaultCounts → FaultCounts → ℕ → Type 0
+IsComplete words known before now status =
+    (files : Names) (job : Job) → known ≡ Some files → AsksWords (command_of words) files (Ok job)
+    → IsWhole job
+    → ((name : List ℕ) → ¬ (Rose (before.files name) (now.files name)))
+    → ¬ (Rose before.out now.out) → (status ≡ 0) ⊎ (status ≡ 6)

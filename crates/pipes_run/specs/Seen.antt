@@ -6,26 +6,28 @@ use Rattle.pipes_buffer.specs.declared.IoFault.{IoFault}
 use Rattle.pipes_buffer.specs.declared.IoFault.TheVariants as io
 use Rattle.pipes_query.specs.declared.query.Query.{Query}
 use Rattle.pipes_text.specs.Texts.{IsFileOfQuery}
-use Rattle.pipes_fault.specs.declared.Fault.{Fault as Kept}
-use Rattle.pipes_fault.specs.Fault.{Fault, QueryText, QueryType, Missing, ReadFile, Write, Memory, fault_seen}
-use Rattle.pipes_plan.specs.Refusals.{refusals, first_of}
-use Rattle.pipes_meaning.specs.Answer.{schemas_of}
+use Rattle.pipes_error.specs.declared.Fault.{Fault as Kept}
+use Rattle.pipes_error.specs.Fault.{Fault, QueryText, QueryType, Missing, ReadFile, Write, Memory}
+use Rattle.pipes_error.specs.Fault.{fault_seen}
+use Rattle.pipes_expr.specs.ExprWhys.{first_of}
+use Rattle.pipes_plan.specs.Refusals.{refusals}
+use Rattle.pipes_semantics.specs.Answer.{schemas_of}
 use Rattle.pipes_plan.specs.PlanKinds.{plan_kinds}
 use Rattle.pipes_run.specs.declared.query.CheckedQuery.{CheckedQuery}
 use Rattle.pipes_run.specs.declared.file.FileFault.{FileFault}
 use Rattle.pipes_run.specs.declared.file.FileFault.TheVariants as file
-use Rattle.pipes_run.specs.Asked.{Holds}
+use Rattle.pipes_run.specs.Asked.{IsQueryFile}
 
 -- the fault that a step ended with, if there was one
-abbrev pub fault_of : {T : Type 0} → Result T Kept → Option Fault
-fault_of (Ok x) = None
-fault_of (Err fault) = Some (fault_seen fault)
+abbrev pub step_fault : {T : Type 0} → Result T Kept → Option Fault
+step_fault (Ok x) = None
+step_fault (Err fault) = Some (fault_seen fault)
 
 -- all bytes of the file, or more than the limit of a file that has more
 abbrev pub ReadsFile : ℕ → Option (List ℕ) → List ℕ → Type 0
 ReadsFile limit file bytes = (whole : List ℕ) × (file ≡ Some whole) × ReadsUpTo limit whole bytes
 
--- a fault that nobody knows before: a failed read, or want of memory
+-- a fault that nobody knows before: a failed read, or out of memory
 abbrev pub IsFree : Fault → Type 0
 IsFree (ReadFile name) = ⊤
 IsFree Memory = ⊤
@@ -54,8 +56,9 @@ IsReadOf name before now fault = ⊤
 
 -- a query is the one that the file holds, and a fault the one that the file decides, or a free one
 abbrev pub GivesQuery : List ℕ → Option (List ℕ) → Result CheckedQuery Kept → Type 0
-GivesQuery name file (Ok checked) = Holds name file (Ok checked.query)
-GivesQuery name file (Err fault) = Holds name file (Err (fault_seen fault)) ⊎ IsFree (fault_seen fault)
+GivesQuery name file (Ok checked) = IsQueryFile name file (Ok checked.query)
+GivesQuery name file (Err fault) = IsQueryFile name file (Err (fault_seen fault))
+    ⊎ IsFree (fault_seen fault)
 
 -- the query is this one, and only a free fault stands in its place
 abbrev pub GivesNoOther : Query → Result CheckedQuery Kept → Type 0
@@ -66,15 +69,16 @@ GivesNoOther query (Err fault) = IsFree (fault_seen fault)
 abbrev pub HasSchema : CheckedQuery → Type 0
 HasSchema checked = plan_kinds checked.query.plan (schemas_of checked.query) ≡ Some checked.schema
 
--- the first refusal of the query's plan, or want of memory
+-- the first refusal of the query's plan, or out of memory
 abbrev pub IsTypeRefusal : Query → Fault → Type 0
-IsTypeRefusal query (QueryType refusal) = first_of (refusals (schemas_of query) query.plan) ≡ Some refusal
+IsTypeRefusal query (QueryType refusal) = first_of (refusals (schemas_of query) query.plan) ≡ Some
+    refusal
 IsTypeRefusal query Memory = ⊤
 IsTypeRefusal query fault = ⊥
 
 -- the query is that of a text
-abbrev pub HasText : Query → Type 0
-HasText query = (bytes : List ℕ) × IsFileOfQuery query bytes
+abbrev pub HasQueryText : Query → Type 0
+HasQueryText query = (bytes : List ℕ) × IsFileOfQuery query bytes
 
 -- the fault that writing ended with, if there was one
 abbrev pub io_fault_of : Result (Unit {0}) IoFault → Option Fault

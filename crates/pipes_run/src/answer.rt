@@ -1,16 +1,16 @@
 // Answers at an instant.
 ghost use Rattle.std.specs.Prelude.{◌≡◌, List, ℕ};
 ghost use Rattle.pipes_plan.specs.PlanKinds.{IsTyped};
-ghost use Rattle.pipes_meaning.specs.Answer.{schemas_of};
-ghost use Rattle.pipes_words.specs.Command as command;
+ghost use Rattle.pipes_semantics.specs.Answer.{schemas_of};
+ghost use Rattle.pipes_args.specs.Command as command;
 ghost use Rattle.pipes_run.specs.Outcome.{RanAfter, RanCommand};
-ghost use Rattle.pipes_run.specs.Seen.{fault_of, io_fault_of};
+ghost use Rattle.pipes_run.specs.Seen.{step_fault, io_fault_of};
 
 use crate::query::query_at;
-use pipes_at::{answer_at, write_tuples};
+use pipes_answer::{answer_at, write_tuples};
 use pipes_buffer::{BUFFER, IoFault};
 use pipes_edge::{Files, Sink};
-use pipes_fault::Fault;
+use pipes_error::Fault;
 use pipes_query::Query;
 use std::alloc::Global;
 
@@ -22,10 +22,20 @@ pub(crate) fn answer_query<'w, F: Files, K: Sink>(
     files: &mut F,
     out: &mut K,
 ) -> Result<(), Fault<'w>>
-    ensures { RanCommand (command.At query.now time) (F.told files.old)
-        (record { files = F.faults files.old; searches = F.failed_searches files.old; out = K.faults out.old })
-        (record { files = F.faults files.new; searches = F.failed_searches files.new; out = K.faults out.new })
-        (K.written out.old) (K.written out.new) (fault_of result) }
+    ensures { RanCommand (command.At query.now time) (F.known files.old)
+        (record {
+          files = F.faults files.old;
+          searches = F.failed_searches files.old;
+          out =
+              K.faults out.old;
+        })
+        (record {
+          files = F.faults files.new;
+          searches = F.failed_searches files.new;
+          out =
+              K.faults out.new;
+        })
+        (K.written out.old) (K.written out.new) (step_fault result) }
 {
     let Ok(mut buffer) = Vec::from_elem(alloc, 0u8, BUFFER) else {
         return Err(Fault::Memory);
@@ -45,10 +55,20 @@ fn answer_checked<F: Files, K: Sink>(
     out: &mut K,
 ) -> Result<(), Fault<'static>>
     requires typed { IsTyped query.now.plan (schemas_of query.now) }
-    ensures { (name : List ℕ) → RanAfter (command.At name time) query.now (F.told files.old)
-        (record { files = F.faults files.old; searches = F.failed_searches files.old; out = K.faults out.old })
-        (record { files = F.faults files.new; searches = F.failed_searches files.new; out = K.faults out.new })
-        (K.written out.old) (K.written out.new) (fault_of result) }
+    ensures { (name : List ℕ) → RanAfter (command.At name time) query.now (F.known files.old)
+        (record {
+          files = F.faults files.old;
+          searches = F.failed_searches files.old;
+          out =
+              K.faults out.old;
+        })
+        (record {
+          files = F.faults files.new;
+          searches = F.failed_searches files.new;
+          out =
+              K.faults out.new;
+        })
+        (K.written out.old) (K.written out.new) (step_fault result) }
 {
     match answer_at(alloc, files, query, time) {
         Ok(tuples) => written(write_tuples(alloc, tuples.as_slice(), out)),
@@ -58,7 +78,7 @@ fn answer_checked<F: Files, K: Sink>(
 
 /// What came of writing, as what came of the call.
 pub(crate) fn written(done: Result<(), IoFault>) -> Result<(), Fault<'static>>
-    ensures { fault_of result ≡ io_fault_of done }
+    ensures { step_fault result ≡ io_fault_of done }
 {
     match done {
         Ok(()) => Ok(()),

@@ -2,20 +2,20 @@
 ghost use Rattle.std.specs.Prelude.{◌≡◌, ◌≤◌, ◌++◌, OnOk, OnErr, IsErrOf, flat_map};
 ghost use Rattle.std.specs.Io.KnownBytes.{Appends};
 ghost use Rattle.pipes_edge.specs.Causes.{Rose};
-ghost use Rattle.pipes_buffer.specs.Pieces.{AppendsFront};
-ghost use Rattle.pipes_words.specs.Command as command;
+ghost use Rattle.pipes_buffer.specs.Pieces.{AppendsPrefix};
+ghost use Rattle.pipes_args.specs.Command as command;
 ghost use Rattle.pipes_text.specs.Printing.{query_text};
 ghost use Rattle.pipes_run.specs.Outcome.{RanCommand, kinds_line, kind_part};
-ghost use Rattle.pipes_run.specs.Seen.{fault_of};
+ghost use Rattle.pipes_run.specs.Seen.{step_fault};
 
 use crate::answer::written;
 use crate::query::{CheckedQuery, query_at};
-use pipes_buffer::{BUFFER, IoFault, append, write_all};
+use pipes_buffer::{BUFFER, IoFault, write_all};
 use pipes_edge::{Files, Sink};
-use pipes_fault::Fault;
+use pipes_error::Fault;
 use pipes_text::print_query;
 use pipes_time::Memory;
-use pipes_tuple::Kind;
+use pipes_tuple::{Kind, append};
 use std::alloc::Global;
 
 /// Prints the query of the file with the name, and the kinds of its result.
@@ -25,10 +25,20 @@ pub(crate) fn check_query<'w, F: Files, K: Sink>(
     files: &mut F,
     out: &mut K,
 ) -> Result<(), Fault<'w>>
-    ensures { RanCommand (command.Check query.now) (F.told files.old)
-        (record { files = F.faults files.old; searches = F.failed_searches files.old; out = K.faults out.old })
-        (record { files = F.faults files.new; searches = F.failed_searches files.new; out = K.faults out.new })
-        (K.written out.old) (K.written out.new) (fault_of result) }
+    ensures { RanCommand (command.Check query.now) (F.known files.old)
+        (record {
+          files = F.faults files.old;
+          searches = F.failed_searches files.old;
+          out =
+              K.faults out.old;
+        })
+        (record {
+          files = F.faults files.new;
+          searches = F.failed_searches files.new;
+          out =
+              K.faults out.new;
+        })
+        (K.written out.old) (K.written out.new) (step_fault result) }
 {
     let Ok(mut buffer) = Vec::from_elem(alloc, 0u8, BUFFER) else {
         return Err(Fault::Memory);
@@ -41,8 +51,10 @@ pub(crate) fn check_query<'w, F: Files, K: Sink>(
 
 // Writes the query's text, and the line of its result's kinds.
 fn write_checked<K: Sink>(alloc: Global, checked: &CheckedQuery, out: &mut K) -> Result<(), IoFault>
-    ensures ok { OnOk result (Appends (K.written out.old) (K.written out.new) (query_text checked.now.query ++ kinds_line checked.now.schema)) }
-    ensures front { OnErr result (AppendsFront (K.written out.old) (K.written out.new) (query_text checked.now.query ++ kinds_line checked.now.schema)) }
+    ensures ok { OnOk result (Appends (K.written out.old) (K.written out.new)
+        (query_text checked.now.query ++ kinds_line checked.now.schema)) }
+    ensures prefix { OnErr result (AppendsPrefix (K.written out.old) (K.written out.new)
+        (query_text checked.now.query ++ kinds_line checked.now.schema)) }
     ensures later { K.faults out.old ≤ K.faults out.new }
     ensures cause { IsErrOf result IoFault.Failed → Rose (K.faults out.old) (K.faults out.new) }
 {
@@ -57,9 +69,9 @@ fn write_checked<K: Sink>(alloc: Global, checked: &CheckedQuery, out: &mut K) ->
 fn push_kinds(kinds: &[Kind], text: &mut Vec<u8>) -> Result<(), Memory>
     ensures { OnOk result (text.new.items ≡ text.old.items ++ kinds_line kinds.now) }
 {
-    append(text, b"kinds")?;
+    append(b"kinds", text)?;
     push_each(kinds, text)?;
-    append(text, b"\n")
+    append(b"\n", text)
 }
 
 // Appends each kind after a space.
@@ -78,9 +90,6 @@ fn push_each(kinds: &[Kind], text: &mut Vec<u8>) -> Result<(), Memory>
 fn push_kind(kind: Kind, text: &mut Vec<u8>) -> Result<(), Memory>
     ensures { OnOk result (text.new.items ≡ text.old.items ++ kind_part kind) }
 {
-    match kind {
-        Kind::Int => append(text, b" int"),
-        Kind::Text => append(text, b" text"),
-        Kind::Flag => append(text, b" flag"),
-    }
+    append(b" ", text)?;
+    append(kind.word(), text)
 }

@@ -3,11 +3,11 @@ ghost use Rattle.std.specs.Prelude.{◌≡◌, ◌<◌, ◌≤◌, None, Some, I
 ghost use Rattle.pipes_edge.specs.Causes.{Rose};
 ghost use Rattle.pipes_edge.specs.Outside.{Names, NoneFalls};
 ghost use Rattle.pipes_run.specs.Seen.{ReadsFile, word_fault_of};
-ghost use Rattle.pipes_fault.specs.Fault.{fault_seen};
+ghost use Rattle.pipes_error.specs.Fault.{fault_seen};
 
 use pipes_buffer::{IoFault, read_up_to};
 use pipes_edge::{Files, FindFault};
-use pipes_fault::{Fault, FileName};
+use pipes_error::{Fault, FileName};
 use std::alloc::Global;
 
 /// Why a file gives nothing.
@@ -40,12 +40,15 @@ pub(crate) fn read_file<F: Files>(
     buffer: &mut [u8],
 ) -> Result<Vec<u8>, FileFault>
     requires { 0 < length buffer.old }
-    ensures told { F.told files.new ≡ F.told files.old }
+    ensures known { F.known files.new ≡ F.known files.old }
     ensures later { NoneFalls (F.faults files.old) (F.faults files.new) }
     ensures searches { F.failed_searches files.old ≤ F.failed_searches files.new }
-    ensures cause { IsErrOf result FileFault.Failed → Rose (F.faults files.old name.now) (F.faults files.new name.now) }
-    ensures missing { (named : Names) → F.told files.old ≡ Some named → IsErrOf result FileFault.Missing → named name.now ≡ None }
-    ensures bytes { (named : Names) → F.told files.old ≡ Some named → IfOk result (λ bytes. ReadsFile limit (named name.now) bytes.items) }
+    ensures cause { IsErrOf result FileFault.Failed → Rose (F.faults files.old name.now)
+        (F.faults files.new name.now) }
+    ensures missing { (named : Names) → F.known files.old ≡ Some named
+        → IsErrOf result FileFault.Missing → named name.now ≡ None }
+    ensures bytes { (named : Names) → F.known files.old ≡ Some named
+        → IfOk result (λ bytes. ReadsFile limit (named name.now) bytes.items) }
 {
     let mut src = match files.find_src(name) {
         Ok(src) => src,

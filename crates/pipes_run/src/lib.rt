@@ -2,9 +2,9 @@
 #![tactic(auto)]
 
 ghost use Rattle.std.specs.Prelude.{◌≡◌, ◌↔◌, None, map, string_bytes};
-ghost use Rattle.pipes_words.specs.Command.{command_of};
-ghost use Rattle.pipes_run.specs.Outcome.{Call, Ran, IsComplete};
-ghost use Rattle.pipes_run.specs.Seen.{fault_of};
+ghost use Rattle.pipes_args.specs.Command.{command_of};
+ghost use Rattle.pipes_run.specs.Outcome.{Call, DidCommand, IsComplete};
+ghost use Rattle.pipes_run.specs.Seen.{step_fault};
 
 mod answer;
 mod check;
@@ -14,16 +14,19 @@ mod run;
 
 use answer::answer_query;
 use check::check_query;
+use pipes_args::{Command, command_in};
 use pipes_edge::{Files, Gate, Sink};
-use pipes_fault::{Fault, say, status};
-use pipes_words::{Command, command_in};
+use pipes_error::{Fault, say, status};
 use run::run_query;
 use std::alloc::Global;
 
-/// Does what the words ask for, and answers the status: 0 where all was done, and else that of the first fault, of which `err` gets one line.
+/// Does what the words ask for, and answers the status: 0 where all was done, and else that of the
+/// first fault, of which `err` gets one line.
 ///
-/// The words are `run QUERY SCRIPT [--form stream|normal]`, `at QUERY TIME` or `check QUERY`; files are found by their names, each is read through one
-/// buffer, and a source that a run reads is never held whole. What was written stands, also where a fault comes later. Want of memory gives status 6.
+/// The words are `run QUERY SCRIPT [--form stream|normal]`, `at QUERY TIME` or `check QUERY`; files
+/// are found by their names, each is read through one
+/// buffer, and a source that a run reads is never held whole. What was written stands, also where a
+/// fault comes later. Out of memory gives status 6.
 pub fn pipes<R: AllocGlobal, F: Files, K: Sink, G: Gate>(
     rt: &R,
     words: &[String],
@@ -32,16 +35,46 @@ pub fn pipes<R: AllocGlobal, F: Files, K: Sink, G: Gate>(
     err: &mut K,
     _gate: &G,
 ) -> u8
-    ensures call { Call (map string_bytes words.now) (F.told files.old)
-        (record { files = F.faults files.old; searches = F.failed_searches files.old; out = K.faults out.old })
-        (record { files = F.faults files.new; searches = F.failed_searches files.new; out = K.faults out.new })
-        (record { written_before = K.written out.old; written_now = K.written out.new; faults_before = K.faults out.old; faults_now = K.faults out.new })
-        (record { written_before = K.written err.old; written_now = K.written err.new; faults_before = K.faults err.old; faults_now = K.faults err.new })
+    ensures call { Call (map string_bytes words.now) (F.known files.old)
+        (record {
+          files = F.faults files.old;
+          searches = F.failed_searches files.old;
+          out =
+              K.faults out.old;
+        })
+        (record {
+          files = F.faults files.new;
+          searches = F.failed_searches files.new;
+          out =
+              K.faults out.new;
+        })
+        (record {
+          written_before = K.written out.old;
+          written_now = K.written out.new;
+          faults_before = K.faults out.old;
+          faults_now = K.faults out.new;
+        })
+        (record {
+          written_before = K.written err.old;
+          written_now = K.written err.new;
+          faults_before = K.faults err.old;
+          faults_now = K.faults err.new;
+        })
         result }
     ensures refused { (result ≡ 1) ↔ (command_of (map string_bytes words.now) ≡ None) }
-    ensures complete { IsComplete (map string_bytes words.now) (F.told files.old)
-        (record { files = F.faults files.old; searches = F.failed_searches files.old; out = K.faults out.old })
-        (record { files = F.faults files.new; searches = F.failed_searches files.new; out = K.faults out.new })
+    ensures complete { IsComplete (map string_bytes words.now) (F.known files.old)
+        (record {
+          files = F.faults files.old;
+          searches = F.failed_searches files.old;
+          out =
+              K.faults out.old;
+        })
+        (record {
+          files = F.faults files.new;
+          searches = F.failed_searches files.new;
+          out =
+              K.faults out.new;
+        })
         result }
 {
     match do_command(rt.alloc(), words, files, out) {
@@ -60,10 +93,20 @@ fn do_command<'w, F: Files, K: Sink>(
     files: &mut F,
     out: &mut K,
 ) -> Result<(), Fault<'w>>
-    ensures { Ran (map string_bytes words.now) (F.told files.old)
-        (record { files = F.faults files.old; searches = F.failed_searches files.old; out = K.faults out.old })
-        (record { files = F.faults files.new; searches = F.failed_searches files.new; out = K.faults out.new })
-        (K.written out.old) (K.written out.new) (fault_of result) }
+    ensures { DidCommand (map string_bytes words.now) (F.known files.old)
+        (record {
+          files = F.faults files.old;
+          searches = F.failed_searches files.old;
+          out =
+              K.faults out.old;
+        })
+        (record {
+          files = F.faults files.new;
+          searches = F.failed_searches files.new;
+          out =
+              K.faults out.new;
+        })
+        (K.written out.old) (K.written out.new) (step_fault result) }
 {
     match command_in(words) {
         None => Err(Fault::Words),

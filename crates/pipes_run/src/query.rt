@@ -4,14 +4,15 @@ ghost use Rattle.pipes_edge.specs.Outside.{Names, NoneFalls};
 ghost use Rattle.pipes_plan.specs.Refusals.{Checks, IsChecked};
 ghost use Rattle.pipes_query.specs.declared.query.Query.{Query as AQuery};
 ghost use Rattle.pipes_text.specs.Texts.{IsFileOfQuery};
-ghost use Rattle.pipes_meaning.specs.Answer.{schemas_of};
-ghost use Rattle.pipes_fault.specs.Fault.{fault_seen};
-ghost use Rattle.pipes_run.specs.Asked.{Holds, Writes};
-ghost use Rattle.pipes_run.specs.Seen.{IsOfQuery, IsOfText, IsReadOf, IsTypeRefusal, GivesQuery, GivesNoOther, HasText, HasSchema};
+ghost use Rattle.pipes_semantics.specs.Answer.{schemas_of};
+ghost use Rattle.pipes_error.specs.Fault.{fault_seen};
+ghost use Rattle.pipes_run.specs.Asked.{IsQueryFile, IsQueryText};
+ghost use Rattle.pipes_run.specs.Seen.{IsOfQuery, IsOfText, IsReadOf, IsTypeRefusal, GivesQuery};
+ghost use Rattle.pipes_run.specs.Seen.{GivesNoOther, HasQueryText, HasSchema};
 
 use crate::file::read_file;
 use pipes_edge::Files;
-use pipes_fault::Fault;
+use pipes_error::Fault;
 use pipes_plan::CheckFault;
 use pipes_query::Query;
 use pipes_text::read_query;
@@ -37,15 +38,18 @@ pub(crate) fn query_at<'w, F: Files>(
     buffer: &mut [u8],
 ) -> Result<CheckedQuery, Fault<'w>>
     requires { 0 < length buffer.old }
-    ensures told { F.told files.new ≡ F.told files.old }
+    ensures known { F.known files.new ≡ F.known files.old }
     ensures later { NoneFalls (F.faults files.old) (F.faults files.new) }
     ensures searches { F.failed_searches files.old ≤ F.failed_searches files.new }
     ensures served { IfErr result (λ e. IsOfQuery (fault_seen e)) }
-    ensures cause { IfErr result (λ e. IsReadOf name.now (F.faults files.old) (F.faults files.new) (fault_seen e)) }
-    ensures text { IfOk result (λ checked. HasText checked.query) }
+    ensures cause { IfErr result (λ e. IsReadOf name.now (F.faults files.old) (F.faults files.new)
+        (fault_seen e)) }
+    ensures text { IfOk result (λ checked. HasQueryText checked.query) }
     ensures schema { IfOk result HasSchema }
-    ensures gives { (named : Names) → F.told files.old ≡ Some named → GivesQuery name.now (named name.now) result }
-    ensures only { (named : Names) (query : AQuery) → F.told files.old ≡ Some named → Holds name.now (named name.now) (Ok query) → GivesNoOther query result }
+    ensures gives { (named : Names) → F.known files.old ≡ Some named
+        → GivesQuery name.now (named name.now) result }
+    ensures only { (named : Names) (query : AQuery) → F.known files.old ≡ Some named
+        → IsQueryFile name.now (named name.now) (Ok query) → GivesNoOther query result }
 {
     let bytes = match read_file(alloc, files, name, LONGEST_QUERY, buffer) {
         Ok(bytes) => bytes,
@@ -60,7 +64,7 @@ fn query_in(alloc: Global, bytes: &[u8]) -> Result<CheckedQuery, Fault<'static>>
     ensures text { IfOk result (λ checked. IsFileOfQuery checked.query bytes.now) }
     ensures schema { IfOk result HasSchema }
     ensures gives { GivesQuery [] (Some bytes.now) result }
-    ensures only { (query : AQuery) → Writes bytes.now (Ok query) → GivesNoOther query result }
+    ensures only { (query : AQuery) → IsQueryText bytes.now (Ok query) → GivesNoOther query result }
 {
     match read_query(alloc, bytes) {
         Ok(query) => checked(alloc, query),

@@ -1,23 +1,24 @@
 // Runs of queries.
-ghost use Rattle.std.specs.Prelude.{◌≡◌, ◌<◌, ◌≤◌, true, Some, Ok, Err, IfErr, List, ℕ, Option, OnOk, length};
+ghost use Rattle.std.specs.Prelude.{◌≡◌, ◌<◌, ◌≤◌, true, Some, Ok, Err, IfErr, List, ℕ, Option};
+ghost use Rattle.std.specs.Prelude.{OnOk, length};
 ghost use Rattle.std.specs.List.{All};
 ghost use Rattle.pipes_edge.specs.Outside.{Names, NoneFalls};
 ghost use Rattle.pipes_plan.specs.PlanKinds.{IsTyped};
 ghost use Rattle.pipes_window.specs.Windows.{IsWindow};
-ghost use Rattle.pipes_words.specs.Command as command;
-ghost use Rattle.pipes_meaning.specs.Answer.{schemas_of};
-ghost use Rattle.pipes_fault.specs.Fault.{fault_seen};
+ghost use Rattle.pipes_args.specs.Command as command;
+ghost use Rattle.pipes_semantics.specs.Answer.{schemas_of};
+ghost use Rattle.pipes_error.specs.Fault.{fault_seen};
 ghost use Rattle.pipes_single.specs.Served.{is_served};
 ghost use Rattle.pipes_run.specs.Asked as asked;
 ghost use Rattle.pipes_run.specs.Outcome.{RanAfter, RanCommand};
 ghost use Rattle.pipes_run.specs.Running.{RanOver, IsOfScript, GivesScript, run_fault_of};
-ghost use Rattle.pipes_run.specs.Seen.{fault_of, IsReadOf};
+ghost use Rattle.pipes_run.specs.Seen.{step_fault, IsReadOf};
 
 use crate::file::read_file;
 use crate::query::query_at;
 use pipes_buffer::BUFFER;
 use pipes_edge::{Files, FindFault, Sink};
-use pipes_fault::{Fault, FileName};
+use pipes_error::{Fault, FileName};
 use pipes_output::Form;
 use pipes_query::Query;
 use pipes_single::{RunFault, serves};
@@ -33,10 +34,20 @@ pub(crate) fn run_query<'w, F: Files, K: Sink>(
     files: &mut F,
     out: &mut K,
 ) -> Result<(), Fault<'w>>
-    ensures { RanCommand (command.Run query.now script.now form) (F.told files.old)
-        (record { files = F.faults files.old; searches = F.failed_searches files.old; out = K.faults out.old })
-        (record { files = F.faults files.new; searches = F.failed_searches files.new; out = K.faults out.new })
-        (K.written out.old) (K.written out.new) (fault_of result) }
+    ensures { RanCommand (command.Run query.now script.now form) (F.known files.old)
+        (record {
+          files = F.faults files.old;
+          searches = F.failed_searches files.old;
+          out =
+              K.faults out.old;
+        })
+        (record {
+          files = F.faults files.new;
+          searches = F.failed_searches files.new;
+          out =
+              K.faults out.new;
+        })
+        (K.written out.old) (K.written out.new) (step_fault result) }
 {
     let Ok(mut buffer) = Vec::from_elem(alloc, 0u8, BUFFER) else {
         return Err(Fault::Memory);
@@ -68,10 +79,21 @@ fn run_checked<'w, F: Files, K: Sink>(
     requires room { 0 < length buffer.old }
     requires typed { IsTyped query.now.plan (schemas_of query.now) }
     requires windows { All (λ s. IsWindow s.window) query.now.sources }
-    ensures { (name : List ℕ) → RanAfter (command.Run name script.now form) query.now (F.told files.old)
-        (record { files = F.faults files.old; searches = F.failed_searches files.old; out = K.faults out.old })
-        (record { files = F.faults files.new; searches = F.failed_searches files.new; out = K.faults out.new })
-        (K.written out.old) (K.written out.new) (fault_of result) }
+    ensures { (name : List ℕ) → RanAfter (command.Run name script.now form) query.now
+        (F.known files.old)
+        (record {
+          files = F.faults files.old;
+          searches = F.failed_searches files.old;
+          out =
+              K.faults out.old;
+        })
+        (record {
+          files = F.faults files.new;
+          searches = F.failed_searches files.new;
+          out =
+              K.faults out.new;
+        })
+        (K.written out.old) (K.written out.new) (step_fault result) }
 {
     if !serves(query) {
         return Err(Fault::Unbuilt);
@@ -90,12 +112,14 @@ fn no_commands<'w, F: Files>(
     buffer: &mut [u8],
 ) -> Result<(), Fault<'w>>
     requires { 0 < length buffer.old }
-    ensures told { F.told files.new ≡ F.told files.old }
+    ensures known { F.known files.new ≡ F.known files.old }
     ensures later { NoneFalls (F.faults files.old) (F.faults files.new) }
     ensures searches { F.failed_searches files.old ≤ F.failed_searches files.new }
     ensures served { IfErr result (λ e. IsOfScript (fault_seen e)) }
-    ensures cause { IfErr result (λ e. IsReadOf name.now (F.faults files.old) (F.faults files.new) (fault_seen e)) }
-    ensures gives { (named : Names) → F.told files.old ≡ Some named → GivesScript result (asked.no_commands named name.now) }
+    ensures cause { IfErr result (λ e. IsReadOf name.now (F.faults files.old) (F.faults files.new)
+        (fault_seen e)) }
+    ensures gives { (named : Names) → F.known files.old ≡ Some named
+        → GivesScript result (asked.is_empty_script named name.now) }
 {
     let bytes = match read_file(alloc, files, name, 0, buffer) {
         Ok(bytes) => bytes,
@@ -119,10 +143,20 @@ fn run_over<F: Files, K: Sink>(
     requires served { is_served query.now ≡ true }
     requires typed { IsTyped query.now.plan (schemas_of query.now) }
     requires windows { All (λ s. IsWindow s.window) query.now.sources }
-    ensures { RanOver form query.now (F.told files.old)
-        (record { files = F.faults files.old; searches = F.failed_searches files.old; out = K.faults out.old })
-        (record { files = F.faults files.new; searches = F.failed_searches files.new; out = K.faults out.new })
-        (K.written out.old) (K.written out.new) (fault_of result) }
+    ensures { RanOver form query.now (F.known files.old)
+        (record {
+          files = F.faults files.old;
+          searches = F.failed_searches files.old;
+          out =
+              K.faults out.old;
+        })
+        (record {
+          files = F.faults files.new;
+          searches = F.failed_searches files.new;
+          out =
+              K.faults out.new;
+        })
+        (K.written out.old) (K.written out.new) (step_fault result) }
 {
     let source = &query.sources.as_slice()[0];
     let (Ok(name), Ok(file)) = (source.name.copy(), source.file.copy()) else {

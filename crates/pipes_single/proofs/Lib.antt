@@ -3,7 +3,6 @@ pub mod Chains
 pub mod Chained
 pub mod Transfer
 pub mod Entries
-pub mod Fronts
 pub mod Tuples
 pub mod Rightness
 pub mod Texts

@@ -10,62 +10,95 @@ use Rattle.pipes_output.specs.declared.entry.Entry.{Entry}
 use Rattle.pipes_output.specs.declared.entry.Entry.TheVariants.{Ended}
 use Rattle.pipes_output.specs.declared.form.Form.{Form}
 use Rattle.pipes_output.specs.declared.form.Form.TheVariants.{Stream, Normal}
-use Rattle.pipes_meaning.specs.Right.{Right, Final}
-use Rattle.pipes_meaning.specs.Run.{WritesRun, WritesRunFront}
-use Rattle.pipes_single.specs.Sent.{sent, sent_all, entries_of, WholeText, FrontText, EarlyText}
+use Rattle.pipes_semantics.specs.Right.{Right, Final}
+use Rattle.pipes_semantics.specs.Run.{WritesRun, WritesRunPrefix}
+use Rattle.pipes_semantics.specs.Written.{EndsRun, entries_of}
+use Rattle.pipes_single.specs.Sent.{sent, sent_all, WholeText, PrefixText, EarlyText}
 use Rattle.pipes_single.proofs.Transfer.{same_normal_text}
-use Rattle.pipes_single.proofs.Entries.{IsLast, is_last-Ended, results-entries, ordered-entries, final-entries, final-none}
-use Rattle.pipes_single.proofs.Fronts.{final-take, lines-front}
-use Rattle.pipes_single.proofs.Rightness.{IsRunOf, AreResults, results-front, sent_all-results, sent-results, sent_all-answer, sent_all-same}
+use Rattle.pipes_single.proofs.Entries.{results-entries, ordered-entries, final-entries}
+use Rattle.pipes_single.proofs.Rightness.{IsRunOf, AreResults, results-prefix, sent_all-results}
+use Rattle.pipes_single.proofs.Rightness.{sent-results, sent_all-answer, sent_all-same}
 
-final_results : (query : Query) (items : List (List Item)) (elems : List Elem) (last : Entry) → IsLast last → AreResults query elems
+final_results : (query : Query) (items : List (List Item)) (elems : List Elem) (last : Entry)
+    → EndsRun last → AreResults query elems
     → Final query items (entries_of elems last)
 final_results query items elems last is h = final-entries query items last elems is h.order h.typed
 
-right_run : (query : Query) (s : SourceDecl) (items : List Item) (last : Entry) → IsLast last → IsRunOf query s items
+right_run : (query : Query) (s : SourceDecl) (items : List Item) (last : Entry) → EndsRun last
+    → IsRunOf query s items
     → Right query (items ∷ []) (entries_of (sent_all query.plan s.window items) last)
 right_run query s items last is run =
     let elems = sent_all query.plan s.window items in
     let h = sent_all-results query s items run in
     record {
       ordered = ordered-entries query last elems is h.order h.typed;
-      answers = λ t below. same_bag _ _ (ap (λ (l : List Elem). snapshot l t) (results-entries last is elems) ∙ sent_all-answer query s items run t below);
+      answers = λ t below. same_bag _ _ (ap (λ (l : List Elem). snapshot l t)
+          (results-entries last is elems) ∙ sent_all-answer query s items run t below);
     }
 
 -- the whole text is what a run writes
-pub whole_writes : (form : Form) (query : Query) (s : SourceDecl) (items : List Item) (last : Entry) (bytes : List ℕ) → IsLast last
+pub whole_writes : (form : Form) (query : Query) (s : SourceDecl) (items : List Item) (last : Entry)
+    (bytes : List ℕ) → EndsRun last
     → IsRunOf query s items → WholeText form (sent_all query.plan s.window items) last bytes
     → WritesRun form query (items ∷ []) last bytes
 whole_writes Stream query s items last bytes is run text =
-    let elems = sent_all query.plan s.window items in
-    (entries_of elems last, text, (_, refl), right_run query s items last is run, final_results query (items ∷ []) elems last is (sent_all-results query s items run))
-whole_writes Normal query s items last bytes is run text = same_normal_text _ _ bytes (sent_all-same query s items run) text
+    let elems = sent_all query.plan s.window items in (
+      elems,
+      text,
+      right_run query s items last is run,
+      final_results query (items ∷ []) elems last is (sent_all-results query s items run),
+    )
+whole_writes Normal query s items last bytes is run text = same_normal_text _ _ bytes
+    (sent_all-same query s items run) text
 
--- a front of the lines is what a run has written that was cut short
-stream_front : (query : Query) (items : List (List Item)) (elems : List Elem) (last : Entry) (bytes : List ℕ) → IsLast last → AreResults query elems
-    → FrontText Stream elems last bytes → WritesRunFront Stream query items bytes
-stream_front query items elems last bytes is h (inl nothing) = ([], Ended, 0, nothing, final-none query items)
-stream_front query items elems last bytes is h (inr front) =
-    let entries = entries_of elems last in
-    let cut = lines-front front.1 entries in
-    (take cut.0 entries, cut.1, cut.2, front.3 ∙ ap (take front.1) front.2 ∙ cut.3, final-take query items cut.0 entries (final_results query items elems last is h))
+-- a prefix of the lines is what a run has written that was cut short
+stream_prefix : (query : Query) (items : List (List Item)) (elems : List Elem) (last : Entry)
+    (bytes : List ℕ) → EndsRun last → AreResults query elems
+    → PrefixText Stream elems last bytes → WritesRunPrefix Stream query items bytes
+stream_prefix query items elems last bytes is h (inl nothing) =
+    (elems, last, 0, is, nothing, final_results query items elems last is h)
+stream_prefix query items elems last bytes is h (inr prefix) = (
+  elems,
+  last,
+  prefix.1,
+  is,
+  prefix.3 ∙ ap (take prefix.1) prefix.2,
+  final_results query items elems last is h,
+)
 
-pub early_writes : (form : Form) (query : Query) (s : SourceDecl) (items : List Item) (bytes : List ℕ) → IsRunOf query s items
-    → EarlyText form (sent query.plan s.window items) bytes → WritesRunFront form query (items ∷ []) bytes
-early_writes Stream query s items bytes run text = stream_front query (items ∷ []) (sent query.plan s.window items) Ended bytes is_last-Ended (sent-results query s items run) text
+pub early_writes : (form : Form) (query : Query) (s : SourceDecl) (items : List Item)
+    (bytes : List ℕ) → IsRunOf query s items
+    → EarlyText form (sent query.plan s.window items) bytes → WritesRunPrefix form query
+    (items ∷ [])
+    bytes
+early_writes Stream query s items bytes run text = stream_prefix query (items ∷ [])
+    (sent query.plan s.window items) Ended bytes (inl refl) (sent-results query s items run) text
 early_writes Normal query s items bytes run text = inl text
 
--- what is written early of a front of the elements
-pub front_early : (form : Form) (query : Query) (s : SourceDecl) (items : List Item) (some rest : List Elem) (bytes : List ℕ) → IsRunOf query s items
-    → sent_all query.plan s.window items ≡ some ++ rest → EarlyText form some bytes → WritesRunFront form query (items ∷ []) bytes
-front_early Stream query s items some rest bytes run is text =
-    stream_front query (items ∷ []) some Ended bytes is_last-Ended (results-front query some rest (subst (λ (l : List Elem). AreResults query l) is (sent_all-results query s items run))) text
-front_early Normal query s items some rest bytes run is text = inl text
+-- what is written early of a prefix of the elements
+pub prefix_early : (form : Form) (query : Query) (s : SourceDecl) (items : List Item)
+    (some rest : List Elem) (bytes : List ℕ) → IsRunOf query s items
+    → sent_all query.plan s.window items ≡ some ++ rest → EarlyText form some bytes
+    → WritesRunPrefix form query (items ∷ []) bytes
+prefix_early Stream query s items some rest bytes run is text =
+    stream_prefix query (items ∷ []) some Ended bytes (inl refl)
+    (results-prefix query some rest (subst (λ (l : List Elem). AreResults query l) is
+    (sent_all-results query s items run))) text
+prefix_early Normal query s items some rest bytes run is text = inl text
 
--- a front of the whole text
-pub front_writes : (form : Form) (query : Query) (s : SourceDecl) (items : List Item) (last : Entry) (bytes : List ℕ) → IsLast last
-    → IsRunOf query s items → FrontText form (sent_all query.plan s.window items) last bytes
-    → WritesRunFront form query (items ∷ []) bytes
-front_writes Stream query s items last bytes is run text = stream_front query (items ∷ []) (sent_all query.plan s.window items) last bytes is (sent_all-results query s items run) text
-front_writes Normal query s items last bytes is run (inl nothing) = inl nothing
-front_writes Normal query s items last bytes is run (inr front) = inr (front.0, front.1, same_normal_text _ _ front.0 (sent_all-same query s items run) front.2, front.3)
+-- a prefix of the whole text
+pub prefix_writes : (form : Form) (query : Query) (s : SourceDecl) (items : List Item)
+    (last : Entry)
+    (bytes : List ℕ) → EndsRun last
+    → IsRunOf query s items → PrefixText form (sent_all query.plan s.window items) last bytes
+    → WritesRunPrefix form query (items ∷ []) bytes
+prefix_writes Stream query s items last bytes is run text = stream_prefix query (items ∷ [])
+    (sent_all query.plan s.window items) last bytes is (sent_all-results query s items run) text
+prefix_writes Normal query s items last bytes is run (inl nothing) = inl nothing
+prefix_writes Normal query s items last bytes is run (inr prefix) =
+    inr (
+      prefix.0,
+      prefix.1,
+      same_normal_text _ _ prefix.0 (sent_all-same query s items run) prefix.2,
+      prefix.3,
+    )

@@ -1,8 +1,9 @@
 -- Queries of one source under filters.
 use Rattle.std.specs.Prelude.{ℕ, List, Bool, true, false, ◌&&◌, ◌==◌, length}
 use Rattle.pipes_plan.specs.declared.plan.Plan.{Plan, fold-Plan}
-use Rattle.pipes_plan.specs.declared.plan.Plan.TheOpen.{Plan-F, Source, Filter, Map, Union, Join, Distinct, Group, Minus}
-use Rattle.pipes_plan.specs.ExprValue.{Row, passes}
+use Rattle.pipes_plan.specs.declared.plan.Plan.TheOpen.{Plan-F, Source, Filter, Map, Union, Join}
+use Rattle.pipes_plan.specs.declared.plan.Plan.TheOpen.{Distinct, Group, Minus}
+use Rattle.pipes_expr.specs.ExprValue.{Row, passes}
 use Rattle.std.specs.List.{list_all}
 use Rattle.pipes_query.specs.declared.query.Query.{Query}
 use Rattle.pipes_query.specs.declared.query.SourceDecl.{SourceDecl}

@@ -1,5 +1,6 @@
 -- A run on its way: what it has taken, and what it has sent of that.
-use Rattle.std.specs.Prelude.{◌≡◌, ◌⊎◌, ℕ, List, [], ◌∷◌, ◌++◌, Option, Some, None, true, false, unwrap_or, slice_get}
+use Rattle.std.specs.Prelude.{◌≡◌, ◌⊎◌, ℕ, List, [], ◌∷◌, ◌++◌, Option, Some, None, true, false}
+use Rattle.std.specs.Prelude.{unwrap_or, slice_get}
 use Rattle.std.specs.Option.{option_map}
 use Rattle.std.specs.List.{All}
 use Rattle.std.specs.Io.KnownBytes.{Appends}
@@ -18,15 +19,15 @@ use Rattle.pipes_window.specs.State.{State, WindowHasTaken as HasTaken}
 use Rattle.pipes_feed.specs.declared.reason.Reason.{Reason}
 use Rattle.pipes_feed.specs.declared.reason.Reason.TheVariants as reason
 use Rattle.pipes_feed.specs.Items.{Items, arrivals_of}
-use Rattle.pipes_feed.specs.Reached.{floor}
+use Rattle.pipes_feed.specs.Reached.{stamp_floor}
 use Rattle.pipes_feed.specs.State.{ReaderState}
-use Rattle.pipes_feed.specs.Ahead.{ahead, ItemFits}
+use Rattle.pipes_feed.specs.Ahead.{arrivals_ahead, ItemFits}
 use Rattle.pipes_query.specs.declared.query.Query.{Query}
 use Rattle.pipes_output.specs.declared.entry.Entry.{Entry}
 use Rattle.pipes_output.specs.declared.entry.Entry.TheVariants as entry
 use Rattle.pipes_output.specs.declared.form.Form.{Form}
-use Rattle.pipes_meaning.specs.Answer.{schemas_of}
-use Rattle.pipes_meaning.specs.Run.{WritesRun, WritesRunFront}
+use Rattle.pipes_semantics.specs.Answer.{schemas_of}
+use Rattle.pipes_semantics.specs.Run.{WritesRun, WritesRunPrefix}
 use Rattle.pipes_buffer.specs.declared.IoFault.{IoFault}
 use Rattle.pipes_buffer.specs.declared.IoFault.TheVariants as io
 use Rattle.pipes_single.specs.declared.RunFault.{RunFault}
@@ -35,7 +36,7 @@ use Rattle.pipes_single.specs.declared.sending.Sending.{Sending}
 use Rattle.pipes_single.specs.Served.{is_served}
 use Rattle.pipes_single.specs.Sent.{sent, passing}
 use Rattle.pipes_single.specs.Kept.{Keeps, StopsEarly, form_of}
-use Rattle.pipes_single.specs.Ran.{kinds_of}
+use Rattle.pipes_single.specs.Ran.{source_kinds}
 
 -- what a run asks of its query
 pub record IsRunnable (query : Query) : Type 0 where
@@ -51,12 +52,14 @@ window_of query = unwrap_or (option_map (λ s. s.window) (slice_get query.source
 abbrev pub HasKinds : List Kind → Elem → Type 0
 HasKinds kinds e = Fits e.tuple kinds
 
--- the window has taken these items of the query's source, and what they make known and passes is on its way
-pub record Sends (query : Query) (init now : Option (List ℕ)) (sending : Sending) (taken : List Item) : Type 0 where
+-- the window has taken these items of the query's source, and what they make known and passes is on
+-- its way
+pub record IsSending (query : Query) (init now : Option (List ℕ)) (sending : Sending)
+    (taken : List Item) : Type 0 where
   pub kind : sending.window.kind ≡ window_of query
   pub window : HasTaken taken sending.window
   pub goes_on : sending.window.ended ≡ false
-  pub fits : All (ItemFits (kinds_of query)) taken
+  pub fits : All (ItemFits (source_kinds query)) taken
   pub empty : sending.found.items ≡ []
   pub kept : Keeps init now sending.results (sent query.plan (window_of query) taken)
 
@@ -66,45 +69,50 @@ each_of None = []
 each_of (Some e) = e ∷ []
 
 -- a window took one more item, which makes at most this element known
-pub record TakesOne (old new : State) (item : Item) (found : Option Elem) : Type 0 where
+pub record TakesItem (old new : State) (item : Item) (found : Option Elem) : Type 0 where
   pub kind : new.kind ≡ old.kind
   pub last : new.last ≡ stamp_of item
   pub ended : new.ended ≡ old.ended
   pub taken : (items : List Item) → HasTaken items old → HasTaken (items ++ item ∷ []) new
-  pub known : (items : List Item) → HasTaken items old → MakesKnown old.kind items item (each_of found)
+  pub known : (items : List Item) → HasTaken items old → MakesKnown old.kind items item
+      (each_of found)
 
--- sending was stopped at one of these elements, behind others that are on their way
-abbrev pub StopsWithin : Plan → Option (List ℕ) → Option (List ℕ) → Form → List Elem → List Elem → Type 0
-StopsWithin plan init now form before elems = (some : List Elem) × (rest : List Elem) × (passing plan elems ≡ some ++ rest) × StopsEarly init now form (before ++ some)
+-- sending was stopped at one of these elements, after others that are on their way
+abbrev pub StopsWithin : Plan → Option (List ℕ) → Option (List ℕ) → Form → List Elem → List Elem
+    → Type 0
+StopsWithin plan init now form before elems = (some : List Elem) × (rest : List Elem)
+    × (passing plan elems ≡ some ++ rest) × StopsEarly init now form (before ++ some)
 
 -- all was written that a run over these items writes
 abbrev pub WritesAll : Form → Query → Option (List ℕ) → Option (List ℕ) → List Item → Entry → Type 0
-WritesAll form query init now items last = (bytes : List ℕ) × Appends init now bytes × WritesRun form query (items ∷ []) last bytes
+WritesAll form query init now items last = (bytes : List ℕ) × Appends init now bytes
+    × WritesRun form query (items ∷ []) last bytes
 
 -- what was written is what a run over these items has written that was cut short
-abbrev pub WritesFront : Form → Query → Option (List ℕ) → Option (List ℕ) → List Item → Type 0
-WritesFront form query init now items = (bytes : List ℕ) × Appends init now bytes × WritesRunFront form query (items ∷ []) bytes
-
--- the entry at the end of a run
-abbrev pub EndsRun : Entry → Type 0
-EndsRun last = (last ≡ entry.Ended) ⊎ (last ≡ entry.Stopped)
+abbrev pub WritesPrefix : Form → Query → Option (List ℕ) → Option (List ℕ) → List Item → Type 0
+WritesPrefix form query init now items = (bytes : List ℕ) × Appends init now bytes
+    × WritesRunPrefix form query (items ∷ []) bytes
 
 -- these were taken, and the others lie ahead
 abbrev pub IsAhead : Items → List Item → Option Items → Type 0
 IsAhead whole taken None = ⊥
 IsAhead whole taken (Some rest) = (whole.list ≡ taken ++ rest.list) × (whole.end ≡ rest.end)
 
--- a run that goes on: of what the source had left at first, its reader has given the items that are taken
-pub record GoesOn (query : Query) (left at init now : Option (List ℕ)) (reader : ReaderState) (sending : Sending) : Type 0 where
+-- a run that goes on: of what the source had left at first, its reader has given the items that are
+-- taken
+pub record RunGoesOn (query : Query) (left at init now : Option (List ℕ)) (reader : ReaderState)
+    (sending : Sending) : Type 0 where
   pub taken : List Item
-  pub sends : Sends query init now sending taken
-  pub last : sending.window.last ≡ floor 0 reader.reached
+  pub sends : IsSending query init now sending taken
+  pub last : sending.window.last ≡ stamp_floor 0 reader.reached
   pub going : reader.ended ≡ None
-  pub kinds : reader.kinds ≡ kinds_of query
+  pub kinds : reader.kinds ≡ source_kinds query
   pub slack : reader.slack ≡ 0
-  pub source : (bytes : List ℕ) → left ≡ Some bytes → IsAhead (arrivals_of (kinds_of query) 0 bytes) taken (ahead reader at)
+  pub source : (bytes : List ℕ) → left ≡ Some bytes → IsAhead
+      (arrivals_of (source_kinds query) 0 bytes)
+      taken (arrivals_ahead reader at)
 
--- the items ended so, or more of them lie ahead of a failed read and of want of memory
+-- the items ended so, or more of them lie ahead of a failed read and of out of memory
 abbrev pub EndsSo : Items → List Item → Reason → Type 0
 EndsSo items taken reason.AtEnd = (items.list ≡ taken) × (items.end ≡ reason.AtEnd)
 EndsSo items taken (reason.Row line why) = (items.list ≡ taken) × (items.end ≡ reason.Row line why)
@@ -113,16 +121,20 @@ EndsSo items taken reason.Failed = (rest : List Item) × (items.list ≡ taken +
 EndsSo items taken reason.Memory = (rest : List Item) × (items.list ≡ taken ++ rest)
 
 -- all was taken up to this end
-pub record TakenAll (query : Query) (left init now : Option (List ℕ)) (sending : Sending) (reason : Reason) : Type 0 where
+pub record TakenAll (query : Query) (left init now : Option (List ℕ)) (sending : Sending)
+    (reason : Reason) : Type 0 where
   pub taken : List Item
-  pub sends : Sends query init now sending taken
-  pub ends : (bytes : List ℕ) → left ≡ Some bytes → EndsSo (arrivals_of (kinds_of query) 0 bytes) taken reason
+  pub sends : IsSending query init now sending taken
+  pub ends : (bytes : List ℕ) → left ≡ Some bytes
+      → EndsSo (arrivals_of (source_kinds query) 0 bytes)
+      taken reason
 
 -- it was stopped on the way
 pub record Stopped (form : Form) (query : Query) (left init now : Option (List ℕ)) : Type 0 where
   pub taken : List Item
-  pub writes : WritesFront form query init now taken
-  pub front : (bytes : List ℕ) → left ≡ Some bytes → (rest : List Item) × ((arrivals_of (kinds_of query) 0 bytes).list ≡ taken ++ rest)
+  pub writes : WritesPrefix form query init now taken
+  pub prefix : (bytes : List ℕ) → left ≡ Some bytes → (rest : List Item)
+      × ((arrivals_of (source_kinds query) 0 bytes).list ≡ taken ++ rest)
 
 -- the fault of a write
 abbrev pub fault_of_write : IoFault → RunFault

@@ -3,8 +3,9 @@ ghost use Rattle.std.specs.Prelude.{◌≡◌, ◌≤◌, ℕ, List, Option};
 ghost use Rattle.pipes_edge.specs.Causes.{Rose};
 ghost use Rattle.pipes_window.specs.declared.item.Item.{Item};
 ghost use Rattle.pipes_single.specs.Kept.{form_of};
-ghost use Rattle.pipes_single.specs.Ran.{Ran, HasCauseIn, fault_in};
-ghost use Rattle.pipes_single.specs.Taking.{IsRunnable, Sends, TakenAll, fault_of_write, fault_of_reason, last_of};
+ghost use Rattle.pipes_single.specs.Ran.{DidRun, HasRunCause, fault_in};
+ghost use Rattle.pipes_single.specs.Taking.{IsRunnable, IsSending, TakenAll, fault_of_write};
+ghost use Rattle.pipes_single.specs.Taking.{fault_of_reason, last_of};
 
 use crate::RunFault;
 use crate::sending::Sending;
@@ -16,7 +17,7 @@ use pipes_query::Query;
 use std::alloc::Global;
 
 /// The fault of a write.
-pub(crate) fn told(fault: IoFault) -> RunFault
+pub(crate) fn known(fault: IoFault) -> RunFault
     ensures { result ≡ fault_of_write fault }
 {
     match fault {
@@ -57,14 +58,19 @@ fn write_end<K: Sink>(
     out: &mut K,
 ) -> Result<(), RunFault>
     requires runnable { IsRunnable query.now }
-    requires sends { (init : Option (List ℕ)) × (taken : List Item) × Sends query.now init (K.written out.old) sending taken }
+    requires sends { (init : Option (List ℕ)) × (taken : List Item)
+        × IsSending query.now init (K.written out.old) sending taken }
     requires ample { reason ≡ Reason.Memory → ⊥ }
-    ensures ran { (left init : Option (List ℕ)) → TakenAll query.now left init (K.written out.old) sending reason → Ran (form_of sending.results) query.now left init (K.written out.new) (fault_in result) }
-    ensures cause { (src_before src_now out_before : ℕ) → (reason ≡ Reason.Failed → Rose src_before src_now) → out_before ≤ K.faults out.old → HasCauseIn src_before src_now out_before (K.faults out.new) (fault_in result) }
+    ensures ran { (left init : Option (List ℕ)) → TakenAll query.now left init (K.written out.old)
+        sending reason → DidRun (form_of sending.results) query.now left init (K.written out.new)
+        (fault_in result) }
+    ensures cause { (src_before src_now out_before : ℕ) → (reason ≡ Reason.Failed
+        → Rose src_before src_now) → out_before ≤ K.faults out.old
+        → HasRunCause src_before src_now out_before (K.faults out.new) (fault_in result) }
 {
     match sending.finish(alloc, query, out, &last_entry(reason)) {
         Ok(()) => outcome(reason),
-        Err(fault) => Err(told(fault)),
+        Err(fault) => Err(known(fault)),
     }
 }
 
@@ -77,9 +83,14 @@ pub(crate) fn end<K: Sink>(
     out: &mut K,
 ) -> Result<(), RunFault>
     requires runnable { IsRunnable query.now }
-    requires sends { (init : Option (List ℕ)) × (taken : List Item) × Sends query.now init (K.written out.old) sending taken }
-    ensures ran { (left init : Option (List ℕ)) → TakenAll query.now left init (K.written out.old) sending reason → Ran (form_of sending.results) query.now left init (K.written out.new) (fault_in result) }
-    ensures cause { (src_before src_now out_before : ℕ) → (reason ≡ Reason.Failed → Rose src_before src_now) → out_before ≤ K.faults out.old → HasCauseIn src_before src_now out_before (K.faults out.new) (fault_in result) }
+    requires sends { (init : Option (List ℕ)) × (taken : List Item)
+        × IsSending query.now init (K.written out.old) sending taken }
+    ensures ran { (left init : Option (List ℕ)) → TakenAll query.now left init (K.written out.old)
+        sending reason → DidRun (form_of sending.results) query.now left init (K.written out.new)
+        (fault_in result) }
+    ensures cause { (src_before src_now out_before : ℕ) → (reason ≡ Reason.Failed
+        → Rose src_before src_now) → out_before ≤ K.faults out.old
+        → HasRunCause src_before src_now out_before (K.faults out.new) (fault_in result) }
 {
     match reason {
         Reason::Memory => Err(RunFault::Memory),

@@ -5,12 +5,12 @@ ghost use Rattle.std.specs.Prelude.{◌≡◌, ◌≤◌, ◌∷◌, [], true};
 ghost use Rattle.std.specs.List.{All};
 ghost use Rattle.pipes_plan.specs.PlanKinds.{IsTyped};
 ghost use Rattle.pipes_window.specs.Windows.{IsWindow};
-ghost use Rattle.pipes_meaning.specs.Answer.{schemas_of};
+ghost use Rattle.pipes_semantics.specs.Answer.{schemas_of};
 ghost use Rattle.pipes_feed.specs.State.{fresh_reader};
 ghost use Rattle.pipes_single.specs.Served.{is_served};
 ghost use Rattle.pipes_single.specs.Kept.{form_of};
-ghost use Rattle.pipes_single.specs.Ran.{Ran, HasCauseIn, fault_in, kinds_of};
-ghost use Rattle.pipes_single.specs.Taking.{IsRunnable, Sends};
+ghost use Rattle.pipes_single.specs.Ran.{DidRun, HasRunCause, fault_in, source_kinds};
+ghost use Rattle.pipes_single.specs.Taking.{IsRunnable, IsSending};
 
 mod chain;
 mod ending;
@@ -18,7 +18,7 @@ mod results;
 mod sending;
 mod taking;
 
-use crate::ending::{end, told};
+use crate::ending::{end, known};
 use crate::sending::Sending;
 use crate::taking::take_all;
 pub use chain::serves;
@@ -48,7 +48,7 @@ pub enum RunFault {
     Read,
     /// A write failed.
     Write,
-    /// Want of memory.
+    /// Out of memory.
     Memory,
 }
 
@@ -70,23 +70,26 @@ fn run_over<S: Source, K: Sink>(
     out: &mut K,
 ) -> Result<(), RunFault>
     requires runnable { IsRunnable query.now }
-    requires fresh { reader.old ≡ fresh_reader (kinds_of query.now) 0 }
+    requires fresh { reader.old ≡ fresh_reader (source_kinds query.now) 0 }
     requires start { sending.window.last ≡ 0 }
-    requires sends { Sends query.now (K.written out.old) (K.written out.old) sending [] }
-    ensures ran { Ran (form_of sending.results) query.now (S.left src.old) (K.written out.old) (K.written out.new) (fault_in result) }
-    ensures cause { HasCauseIn (S.faults src.old) (S.faults src.new) (K.faults out.old) (K.faults out.new) (fault_in result) }
+    requires sends { IsSending query.now (K.written out.old) (K.written out.old) sending [] }
+    ensures ran { DidRun (form_of sending.results) query.now (S.left src.old) (K.written out.old)
+        (K.written out.new) (fault_in result) }
+    ensures cause { HasRunCause (S.faults src.old) (S.faults src.new) (K.faults out.old)
+        (K.faults out.new) (fault_in result) }
     ensures later { S.faults src.old ≤ S.faults src.new }
     ensures name { S.name src.new ≡ S.name src.old }
     ensures found_at { S.found_at src.new ≡ S.found_at src.old }
 {
     match take_all(query, reader, &mut sending, src, out) {
         Ok(reason) => end(alloc, query, sending, reason, out),
-        Err(fault) => Err(told(fault)),
+        Err(fault) => Err(known(fault)),
     }
 }
 
-/// Runs the query over the source and writes what it gives, in this form. A fault of the source ends its items, and what they give is
-/// written to the end; a write that fails, or want of memory, stops the run at once.
+/// Runs the query over the source and writes what it gives, in this form. A fault of the source
+/// ends its items, and what they give is
+/// written to the end; a write that fails, or out of memory, stops the run at once.
 pub fn run<S: Source, K: Sink>(
     alloc: Global,
     form: Form,
@@ -97,8 +100,10 @@ pub fn run<S: Source, K: Sink>(
     requires served { is_served query.now ≡ true }
     requires typed { IsTyped query.now.plan (schemas_of query.now) }
     requires windows { All (λ s. IsWindow s.window) query.now.sources }
-    ensures ran { Ran form query.now (S.left src.old) (K.written out.old) (K.written out.new) (fault_in result) }
-    ensures cause { HasCauseIn (S.faults src.old) (S.faults src.new) (K.faults out.old) (K.faults out.new) (fault_in result) }
+    ensures ran { DidRun form query.now (S.left src.old) (K.written out.old) (K.written out.new)
+        (fault_in result) }
+    ensures cause { HasRunCause (S.faults src.old) (S.faults src.new) (K.faults out.old)
+        (K.faults out.new) (fault_in result) }
     ensures later { S.faults src.old ≤ S.faults src.new }
     ensures name { S.name src.new ≡ S.name src.old }
     ensures found_at { S.found_at src.new ≡ S.found_at src.old }

@@ -1,14 +1,15 @@
 // Results on their way out.
-ghost use Rattle.std.specs.Prelude.{◌≡◌, ◌⊎◌, ◌≤◌, ◌++◌, ◌∷◌, [], take, flat_map, List, ℕ, Option, OnOk, OnErr, IsErrOf};
+ghost use Rattle.std.specs.Prelude.{◌≡◌, ◌⊎◌, ◌≤◌, ◌++◌, ◌∷◌, [], take, flat_map, List, ℕ, Option};
+ghost use Rattle.std.specs.Prelude.{OnOk, OnErr, IsErrOf};
 ghost use Rattle.std.specs.Io.KnownBytes.{Appends};
 ghost use Rattle.pipes_stream.specs.declared.Elem.{Elem};
 ghost use Rattle.pipes_stream.specs.Snapshot.{snapshot};
 ghost use Rattle.pipes_edge.specs.Causes.{Rose};
-ghost use Rattle.pipes_buffer.specs.Pieces.{AppendsFront, PassesOn};
+ghost use Rattle.pipes_buffer.specs.Pieces.{AppendsPrefix, PassesOn};
 ghost use Rattle.pipes_output.specs.declared.entry.Entry.TheVariants as entry;
 ghost use Rattle.pipes_output.specs.Lines.{line};
 ghost use Rattle.pipes_output.specs.NormalText.{IsNormalText, period_line};
-ghost use Rattle.pipes_single.specs.Kept.{Keeps, StopsEarly, Stops, Writes, form_of};
+ghost use Rattle.pipes_single.specs.Kept.{Keeps, StopsEarly, WritesPrefixOf, WritesWhole, form_of};
 
 use pipes_buffer::{IoFault, write_all, write_if_full};
 use pipes_edge::Sink;
@@ -38,8 +39,12 @@ impl Results {
     /// One result more.
     pub(crate) fn put<K: Sink>(&mut self, out: &mut K, elem: Elem) -> Result<(), IoFault>
         ensures form { form_of self.new ≡ form_of self.old }
-        ensures ok { OnOk result ((init : Option (List ℕ)) (elems : List Elem) → Keeps init (K.written out.old) self.old elems → Keeps init (K.written out.new) self.new (elems ++ elem ∷ [])) }
-        ensures err { OnErr result ((init : Option (List ℕ)) (elems : List Elem) → Keeps init (K.written out.old) self.old elems → StopsEarly init (K.written out.new) (form_of self.old) (elems ++ elem ∷ [])) }
+        ensures ok { OnOk result ((init : Option (List ℕ)) (elems : List Elem)
+            → Keeps init (K.written out.old) self.old elems → Keeps init (K.written out.new)
+            self.new (elems ++ elem ∷ [])) }
+        ensures err { OnErr result ((init : Option (List ℕ)) (elems : List Elem)
+            → Keeps init (K.written out.old) self.old elems → StopsEarly init (K.written out.new)
+            (form_of self.old) (elems ++ elem ∷ [])) }
         ensures later { K.faults out.old ≤ K.faults out.new }
         ensures cause { IsErrOf result IoFault.Failed → Rose (K.faults out.old) (K.faults out.new) }
     {
@@ -56,8 +61,13 @@ impl Results {
         out: &mut K,
         last: &Entry,
     ) -> Result<(), IoFault>
-        ensures ok { OnOk result ((init : Option (List ℕ)) (elems : List Elem) → Keeps init (K.written out.old) self.old elems → Writes init (K.written out.new) (form_of self.old) elems last.now) }
-        ensures err { OnErr result ((init : Option (List ℕ)) (elems : List Elem) → Keeps init (K.written out.old) self.old elems → Stops init (K.written out.new) (form_of self.old) elems last.now) }
+        ensures ok { OnOk result ((init : Option (List ℕ)) (elems : List Elem)
+            → Keeps init (K.written out.old) self.old elems → WritesWhole init (K.written out.new)
+            (form_of self.old) elems last.now) }
+        ensures err { OnErr result ((init : Option (List ℕ)) (elems : List Elem)
+            → Keeps init (K.written out.old) self.old elems → WritesPrefixOf init
+            (K.written out.new)
+            (form_of self.old) elems last.now) }
         ensures later { K.faults out.old ≤ K.faults out.new }
         ensures cause { IsErrOf result IoFault.Failed → Rose (K.faults out.old) (K.faults out.new) }
     {
@@ -70,8 +80,10 @@ impl Results {
 
 // Appends the result's line, and writes what fills a buffer.
 fn put_line<K: Sink>(text: &mut Vec<u8>, out: &mut K, elem: Elem) -> Result<(), IoFault>
-    ensures ok { OnOk result (PassesOn (K.written out.old) (K.written out.new) (text.old.items ++ line (entry.Result elem)) text.new.items) }
-    ensures front { OnErr result (AppendsFront (K.written out.old) (K.written out.new) (text.old.items ++ line (entry.Result elem))) }
+    ensures ok { OnOk result (PassesOn (K.written out.old) (K.written out.new) (text.old.items
+        ++ line (entry.Result elem)) text.new.items) }
+    ensures prefix { OnErr result (AppendsPrefix (K.written out.old) (K.written out.new)
+        (text.old.items ++ line (entry.Result elem))) }
     ensures later { K.faults out.old ≤ K.faults out.new }
     ensures cause { IsErrOf result IoFault.Failed → Rose (K.faults out.old) (K.faults out.new) }
 {
@@ -82,8 +94,10 @@ fn put_line<K: Sink>(text: &mut Vec<u8>, out: &mut K, elem: Elem) -> Result<(), 
 
 // Appends the entry's line, and writes all.
 fn end_stream<K: Sink>(text: &mut Vec<u8>, out: &mut K, last: &Entry) -> Result<(), IoFault>
-    ensures ok { OnOk result (Appends (K.written out.old) (K.written out.new) (text.old.items ++ line last.now)) }
-    ensures front { OnErr result (AppendsFront (K.written out.old) (K.written out.new) (text.old.items ++ line last.now)) }
+    ensures ok { OnOk result (Appends (K.written out.old) (K.written out.new) (text.old.items
+        ++ line last.now)) }
+    ensures prefix { OnErr result (AppendsPrefix (K.written out.old) (K.written out.new)
+        (text.old.items ++ line last.now)) }
     ensures later { K.faults out.old ≤ K.faults out.new }
     ensures cause { IsErrOf result IoFault.Failed → Rose (K.faults out.old) (K.faults out.new) }
 {
@@ -94,8 +108,12 @@ fn end_stream<K: Sink>(text: &mut Vec<u8>, out: &mut K, last: &Entry) -> Result<
 
 // Writes the normal text.
 fn write_normal<K: Sink>(alloc: Global, normal: &Normal, out: &mut K) -> Result<(), IoFault>
-    ensures ok { OnOk result ((text : List ℕ) × IsNormalText (snapshot normal.now) text × Appends (K.written out.old) (K.written out.new) text) }
-    ensures front { OnErr result ((bytes : List ℕ) × Appends (K.written out.old) (K.written out.new) bytes × ((bytes ≡ []) ⊎ ((text : List ℕ) × (n : ℕ) × IsNormalText (snapshot normal.now) text × (bytes ≡ take n text)))) }
+    ensures ok { OnOk result ((text : List ℕ) × IsNormalText (snapshot normal.now) text
+        × Appends (K.written out.old) (K.written out.new) text) }
+    ensures prefix { OnErr result ((bytes : List ℕ) × Appends (K.written out.old)
+        (K.written out.new)
+        bytes × ((bytes ≡ []) ⊎ ((text : List ℕ) × (n : ℕ) × IsNormalText (snapshot normal.now) text
+        × (bytes ≡ take n text)))) }
     ensures later { K.faults out.old ≤ K.faults out.new }
     ensures cause { IsErrOf result IoFault.Failed → Rose (K.faults out.old) (K.faults out.new) }
 {
@@ -105,8 +123,10 @@ fn write_normal<K: Sink>(alloc: Global, normal: &Normal, out: &mut K) -> Result<
 
 // Writes a line for each period.
 fn write_periods<K: Sink>(alloc: Global, periods: &[Period<'_>], out: &mut K) -> Result<(), IoFault>
-    ensures ok { OnOk result (Appends (K.written out.old) (K.written out.new) (flat_map period_line periods.now)) }
-    ensures front { OnErr result (AppendsFront (K.written out.old) (K.written out.new) (flat_map period_line periods.now)) }
+    ensures ok { OnOk result (Appends (K.written out.old) (K.written out.new)
+        (flat_map period_line periods.now)) }
+    ensures prefix { OnErr result (AppendsPrefix (K.written out.old) (K.written out.new)
+        (flat_map period_line periods.now)) }
     ensures later { K.faults out.old ≤ K.faults out.new }
     ensures cause { IsErrOf result IoFault.Failed → Rose (K.faults out.old) (K.faults out.new) }
 {

@@ -1,5 +1,6 @@
 // What a source's items give, sent on its way.
-ghost use Rattle.std.specs.Prelude.{◌≡◌, ◌⊎◌, ◌≤◌, ◌<◌, ◌++◌, ◌∷◌, [], map, false, true, IfOk, List, ℕ, Option, OnOk, OnErr, IsErrOf};
+ghost use Rattle.std.specs.Prelude.{◌≡◌, ◌⊎◌, ◌≤◌, ◌<◌, ◌++◌, ◌∷◌, [], map, false, true, IfOk};
+ghost use Rattle.std.specs.Prelude.{List, ℕ, Option, OnOk, OnErr, IsErrOf};
 ghost use Rattle.std.specs.List.{All};
 ghost use Rattle.pipes_edge.specs.Causes.{Rose};
 ghost use Rattle.pipes_tuple.specs.Kinds.{kind_of};
@@ -14,8 +15,11 @@ ghost use Rattle.pipes_feed.specs.Ahead.{ItemFits};
 ghost use Rattle.pipes_single.specs.Served.{is_chain};
 ghost use Rattle.pipes_single.specs.Sent.{passing};
 ghost use Rattle.pipes_single.specs.Kept.{StopsEarly, Keeps, form_of};
-ghost use Rattle.pipes_single.specs.Ran.{kinds_of};
-ghost use Rattle.pipes_single.specs.Taking.{IsRunnable, HasKinds, Sends, TakesOne, StopsWithin, WritesAll, WritesFront, EndsRun};
+ghost use Rattle.pipes_single.specs.Ran.{source_kinds};
+ghost use Rattle.pipes_single.specs.Taking.{IsRunnable, HasKinds, IsSending, TakesItem};
+ghost use Rattle.pipes_single.specs.Taking.{StopsWithin};
+ghost use Rattle.pipes_semantics.specs.Written.{EndsRun};
+ghost use Rattle.pipes_single.specs.Taking.{WritesAll, WritesPrefix};
 
 use crate::chain::passes;
 use crate::results::Results;
@@ -42,7 +46,8 @@ fn take_item(window: &mut Window, item: Item, found: &mut Vec<Elem>) -> Result<(
     requires order { window.old.last ≤ stamp_of item }
     requires below { stamp_of item < HORIZON }
     requires goes_on { window.old.ended ≡ false }
-    ensures { OnOk result (state.WindowTakes window.old window.new item found.old.items found.new.items) }
+    ensures { OnOk result (state.WindowTakes window.old window.new item found.old.items
+        found.new.items) }
 {
     match item {
         Item::Row(stamp, tuple) => window.take(stamp, tuple, found),
@@ -60,7 +65,7 @@ fn take_one(window: &mut Window, item: Item, found: &mut Vec<Elem>) -> Result<Op
     requires goes_on { window.old.ended ≡ false }
     requires empty { found.old.items ≡ [] }
     requires taken { (items : List Item) × HasTaken items window.old }
-    ensures takes { IfOk result (λ known. TakesOne window.old window.new item known) }
+    ensures takes { IfOk result (λ known. TakesItem window.old window.new item known) }
     ensures empty { OnOk result (found.new.items ≡ []) }
 {
     take_item(window, item, found)?;
@@ -77,8 +82,12 @@ fn send<K: Sink>(
     requires chain { is_chain query.now.plan ≡ true }
     requires typed { IsTyped query.now.plan (map kind_of elem.tuple ∷ []) }
     ensures form { form_of results.new ≡ form_of results.old }
-    ensures ok { OnOk result ((init : Option (List ℕ)) (elems : List Elem) → Keeps init (K.written out.old) results.old elems → Keeps init (K.written out.new) results.new (elems ++ passing query.now.plan (elem ∷ []))) }
-    ensures err { OnErr result ((init : Option (List ℕ)) (elems : List Elem) → Keeps init (K.written out.old) results.old elems → StopsEarly init (K.written out.new) (form_of results.old) (elems ++ passing query.now.plan (elem ∷ []))) }
+    ensures ok { OnOk result ((init : Option (List ℕ)) (elems : List Elem)
+        → Keeps init (K.written out.old) results.old elems → Keeps init (K.written out.new)
+        results.new (elems ++ passing query.now.plan (elem ∷ []))) }
+    ensures err { OnErr result ((init : Option (List ℕ)) (elems : List Elem)
+        → Keeps init (K.written out.old) results.old elems → StopsEarly init (K.written out.new)
+        (form_of results.old) (elems ++ passing query.now.plan (elem ∷ []))) }
     ensures later { K.faults out.old ≤ K.faults out.new }
     ensures cause { IsErrOf result IoFault.Failed → Rose (K.faults out.old) (K.faults out.new) }
 {
@@ -97,10 +106,14 @@ fn send_all<K: Sink>(
     out: &mut K,
 ) -> Result<(), IoFault>
     requires runnable { IsRunnable query.now }
-    requires fit { All (HasKinds (kinds_of query.now)) found.items }
+    requires fit { All (HasKinds (source_kinds query.now)) found.items }
     ensures form { form_of results.new ≡ form_of results.old }
-    ensures ok { OnOk result ((init : Option (List ℕ)) (elems : List Elem) → Keeps init (K.written out.old) results.old elems → Keeps init (K.written out.new) results.new (elems ++ passing query.now.plan found.items)) }
-    ensures err { OnErr result ((init : Option (List ℕ)) (elems : List Elem) → Keeps init (K.written out.old) results.old elems → StopsWithin query.now.plan init (K.written out.new) (form_of results.old) elems found.items) }
+    ensures ok { OnOk result ((init : Option (List ℕ)) (elems : List Elem)
+        → Keeps init (K.written out.old) results.old elems → Keeps init (K.written out.new)
+        results.new (elems ++ passing query.now.plan found.items)) }
+    ensures err { OnErr result ((init : Option (List ℕ)) (elems : List Elem)
+        → Keeps init (K.written out.old) results.old elems → StopsWithin query.now.plan init
+        (K.written out.new) (form_of results.old) elems found.items) }
     ensures later { K.faults out.old ≤ K.faults out.new }
     ensures cause { IsErrOf result IoFault.Failed → Rose (K.faults out.old) (K.faults out.new) }
 {
@@ -116,7 +129,8 @@ impl Sending {
         requires { IsWindow source.now.window }
         ensures form { form_of result.results ≡ form }
         ensures last { result.window.last ≡ 0 }
-        ensures sends { (query : Query) (written : Option (List ℕ)) → query.sources ≡ source.now ∷ [] → Sends query written written result [] }
+        ensures sends { (query : Query) (written : Option (List ℕ))
+            → query.sources ≡ source.now ∷ [] → IsSending query written written result [] }
     {
         Sending {
             window: Window::new(alloc, source.window).unwrap(),
@@ -134,13 +148,20 @@ impl Sending {
     ) -> Result<(), IoFault>
         requires order { self.old.window.last ≤ stamp_of item }
         requires below { stamp_of item < HORIZON }
-        requires fits { ItemFits (kinds_of query.now) item }
+        requires fits { ItemFits (source_kinds query.now) item }
         requires runnable { IsRunnable query.now }
-        requires sends { (init : Option (List ℕ)) × (taken : List Item) × Sends query.now init (K.written out.old) self.old taken }
+        requires sends { (init : Option (List ℕ)) × (taken : List Item)
+            × IsSending query.now init (K.written out.old) self.old taken }
         ensures form { form_of self.new.results ≡ form_of self.old.results }
         ensures last { OnOk result (self.new.window.last ≡ stamp_of item) }
-        ensures ok { OnOk result ((init : Option (List ℕ)) (taken : List Item) → Sends query.now init (K.written out.old) self.old taken → Sends query.now init (K.written out.new) self.new (taken ++ item ∷ [])) }
-        ensures err { OnErr result ((init : Option (List ℕ)) (taken : List Item) → Sends query.now init (K.written out.old) self.old taken → WritesFront (form_of self.old.results) query.now init (K.written out.new) taken ⊎ WritesFront (form_of self.old.results) query.now init (K.written out.new) (taken ++ item ∷ [])) }
+        ensures ok { OnOk result ((init : Option (List ℕ)) (taken : List Item)
+            → IsSending query.now init (K.written out.old) self.old taken
+            → IsSending query.now init (K.written out.new) self.new (taken ++ item ∷ [])) }
+        ensures err { OnErr result ((init : Option (List ℕ)) (taken : List Item)
+            → IsSending query.now init (K.written out.old) self.old taken
+            → WritesPrefix (form_of self.old.results) query.now init (K.written out.new) taken
+            ⊎ WritesPrefix (form_of self.old.results) query.now init (K.written out.new)
+            (taken ++ item ∷ [])) }
         ensures later { K.faults out.old ≤ K.faults out.new }
         ensures cause { IsErrOf result IoFault.Failed → Rose (K.faults out.old) (K.faults out.new) }
     {
@@ -150,7 +171,8 @@ impl Sending {
         }
     }
 
-    /// The source has ended: sends what is left, and writes all, with this entry at the end of the stream.
+    /// The source has ended: sends what is left, and writes all, with this entry at the end of the
+    /// stream.
     pub(crate) fn finish<K: Sink>(
         self,
         alloc: Global,
@@ -160,9 +182,14 @@ impl Sending {
     ) -> Result<(), IoFault>
         requires runnable { IsRunnable query.now }
         requires last { EndsRun last.now }
-        requires sends { (init : Option (List ℕ)) × (taken : List Item) × Sends query.now init (K.written out.old) self taken }
-        ensures ok { OnOk result ((init : Option (List ℕ)) (taken : List Item) → Sends query.now init (K.written out.old) self taken → WritesAll (form_of self.results) query.now init (K.written out.new) taken last.now) }
-        ensures err { OnErr result ((init : Option (List ℕ)) (taken : List Item) → Sends query.now init (K.written out.old) self taken → WritesFront (form_of self.results) query.now init (K.written out.new) taken) }
+        requires sends { (init : Option (List ℕ)) × (taken : List Item)
+            × IsSending query.now init (K.written out.old) self taken }
+        ensures ok { OnOk result ((init : Option (List ℕ)) (taken : List Item)
+            → IsSending query.now init (K.written out.old) self taken
+            → WritesAll (form_of self.results) query.now init (K.written out.new) taken last.now) }
+        ensures err { OnErr result ((init : Option (List ℕ)) (taken : List Item)
+            → IsSending query.now init (K.written out.old) self taken
+            → WritesPrefix (form_of self.results) query.now init (K.written out.new) taken) }
         ensures later { K.faults out.old ≤ K.faults out.new }
         ensures cause { IsErrOf result IoFault.Failed → Rose (K.faults out.old) (K.faults out.new) }
     {

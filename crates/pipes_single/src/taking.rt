@@ -3,8 +3,8 @@ ghost use Rattle.std.specs.Prelude.{◌≡◌, ◌≤◌, [], IfOk, OnErr, IsErr
 ghost use Rattle.pipes_edge.specs.Causes.{Rose};
 ghost use Rattle.pipes_feed.specs.State.{fresh_reader};
 ghost use Rattle.pipes_single.specs.Kept.{form_of};
-ghost use Rattle.pipes_single.specs.Ran.{kinds_of};
-ghost use Rattle.pipes_single.specs.Taking.{IsRunnable, Sends, TakenAll, Stopped};
+ghost use Rattle.pipes_single.specs.Ran.{source_kinds};
+ghost use Rattle.pipes_single.specs.Taking.{IsRunnable, IsSending, TakenAll, Stopped};
 
 use crate::sending::Sending;
 use pipes_buffer::IoFault;
@@ -21,12 +21,14 @@ pub(crate) fn take_all<S: Source, K: Sink>(
     out: &mut K,
 ) -> Result<Reason, IoFault>
     requires runnable { IsRunnable query.now }
-    requires fresh { reader.old ≡ fresh_reader (kinds_of query.now) 0 }
+    requires fresh { reader.old ≡ fresh_reader (source_kinds query.now) 0 }
     requires start { sending.old.window.last ≡ 0 }
-    requires sends { Sends query.now (K.written out.old) (K.written out.old) sending.old [] }
+    requires sends { IsSending query.now (K.written out.old) (K.written out.old) sending.old [] }
     ensures form { form_of sending.new.results ≡ form_of sending.old.results }
-    ensures ok { IfOk result (λ reason. TakenAll query.now (S.left src.old) (K.written out.old) (K.written out.new) sending.new reason) }
-    ensures err { OnErr result (Stopped (form_of sending.old.results) query.now (S.left src.old) (K.written out.old) (K.written out.new)) }
+    ensures ok { IfOk result (λ reason. TakenAll query.now (S.left src.old) (K.written out.old)
+        (K.written out.new) sending.new reason) }
+    ensures err { OnErr result (Stopped (form_of sending.old.results) query.now (S.left src.old)
+        (K.written out.old) (K.written out.new)) }
     ensures read { result ≡ Ok Reason.Failed → Rose (S.faults src.old) (S.faults src.new) }
     ensures cause { IsErrOf result IoFault.Failed → Rose (K.faults out.old) (K.faults out.new) }
     ensures later { K.faults out.old ≤ K.faults out.new }

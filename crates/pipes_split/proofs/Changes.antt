@@ -1,6 +1,8 @@
 -- One view and one word change, or a view joins the others, and the rule holds again.
-use Rattle.std.proofs.Common.{◌≡◌, ◌≢◌, ◌⊎◌, ℕ, ◌+◌, ◌^◌, ◌<◌, ◌≤◌, true, false, List, [], ◌∷◌, ◌++◌}
-use Rattle.std.proofs.Common.{length, get_or, set, Some, refl, sym, ap, ◌∙◌, subst, ⊎_elim, inl, inr, arith}
+use Rattle.std.proofs.Common.{◌≡◌, ◌≢◌, ◌⊎◌, ℕ, ◌+◌, ◌^◌, ◌<◌, ◌≤◌, true, false, List, [], ◌∷◌}
+use Rattle.std.proofs.Common.{◌++◌}
+use Rattle.std.proofs.Common.{length, get_or, set, Some, refl, sym, ap, ◌∙◌, subst, ⊎_elim, inl}
+use Rattle.std.proofs.Common.{inr, arith}
 use mathlib.Core.Logic.{dite}
 use native.Mathlib.Decide.{ℕ_discrete}
 use lib.ListN.{get_elem?}
@@ -8,8 +10,10 @@ use Rattle.atomic_table.proofs.Lists.{at_set, set_else, at_snoc, at_longer}
 use Rattle.pipes_time.specs.Interval.{horizon}
 use Rattle.pipes_split.specs.declared.views.View.{View}
 use Rattle.pipes_split.specs.Views.{epochs, last_epoch, all_halts, all_words, halt_word}
-use Rattle.pipes_split.specs.Views.{greatest_at, first_at, low, IsSplitOf, top_of, split_of, has_asked}
-use Rattle.pipes_split.specs.Rule.{HasView, ViewFits, SomeTop, CloserKnows, EpochRule, HaltRule, OneCloses, Book, SplitRule}
+use Rattle.pipes_split.specs.Views.{greatest_at, first_at, low, IsSplitOf, top_of, split_of}
+use Rattle.pipes_split.specs.Views.{has_asked}
+use Rattle.pipes_split.specs.Rule.{HasView, ViewFits, SomeTop, CloserKnows, EpochRule, HaltRule}
+use Rattle.pipes_split.specs.Rule.{OneCloses, Book, SplitRule}
 use Rattle.pipes_split.proofs.Maps.{at-set, same-there}
 
 -- The word of the epoch e goes from n to m, and one view from v to w.

@@ -1,6 +1,8 @@
 -- Each kind of step keeps the rule, and tells what its play says.
-use Rattle.std.proofs.Common.{◌≡◌, ◌≢◌, ℕ, zero, suc, ◌+◌, ◌-◌, ◌^◌, ◌<◌, ◌≤◌, max, true, false, List, [], ◌∷◌, ◌++◌}
-use Rattle.std.proofs.Common.{length, get_or, set, Some, None, refl, sym, ap, ◌∙◌, subst, ⊎_elim, inl, inr, arith}
+use Rattle.std.proofs.Common.{◌≡◌, ◌≢◌, ℕ, zero, suc, ◌+◌, ◌-◌, ◌^◌, ◌<◌, ◌≤◌, max, true, false}
+use Rattle.std.proofs.Common.{List, [], ◌∷◌, ◌++◌}
+use Rattle.std.proofs.Common.{length, get_or, set, Some, None, refl, sym, ap, ◌∙◌, subst, ⊎_elim}
+use Rattle.std.proofs.Common.{inl, inr, arith}
 use Rattle.std.proofs.Common.{length-set, bit_or, replicate}
 use mathlib.Core.Logic.{dite}
 use mathlib.Core.Option.{some, none, some-ne-none, some-injective}
@@ -10,7 +12,8 @@ use Rattle.std.proofs.lemmas.Bool.{cases_lt}
 use Rattle.std.specs.Int.Bits.{or_add_and}
 use Rattle.std.proofs.lemmas.Nat.Bits.{and_pow}
 use Rattle.std.proofs.lemmas.List.{set-get_or}
-use Rattle.atomic_table.specs.Table.{step, keeps, stepped, Allows, Splits, Joins, Act, Valid, carried_after}
+use Rattle.atomic_table.specs.Table.{step, keeps, stepped, Allows, Splits, Joins, Act, Valid}
+use Rattle.atomic_table.specs.Table.{carried_after}
 use Rattle.atomic_table.proofs.Lists.{set_else, set_again}
 use Rattle.pipes_time.specs.Interval.{horizon}
 use Rattle.pipes_split.specs.declared.views.View.{View}
@@ -18,13 +21,20 @@ use Rattle.pipes_split.specs.declared.views.Kind.{Kind}
 use Rattle.pipes_split.specs.declared.views.Kind.TheVariants as kind
 use Rattle.pipes_split.specs.Views.{epochs, last_epoch, all_halts, all_words, halt_word, Map}
 use Rattle.pipes_split.specs.Views.{greatest_at, first_at, has_key, low, split_of, has_asked}
-use Rattle.pipes_split.specs.Views.{act, blank, first_view, with_step, with_end, with_split, with_halt, note_of, joined, without_note}
+use Rattle.pipes_split.specs.Views.{act, blank, first_view, with_step, with_end, with_split}
+use Rattle.pipes_split.specs.Views.{with_halt, note_of, joined, without_note}
 use Rattle.pipes_split.specs.Rule.{HasView, ViewFits, EpochRule, HaltRule, Book, SplitRule}
-use Rattle.pipes_split.specs.Rule.{EndsLieBelow, SplitsAgree, WordsHoldEnds, CloserKnows}
-use Rattle.pipes_split.specs.Told.{MySeat, AgreesWith, OpenTells, ClosedTells, NoteSays, told_raise, told_look, told_close, told_halt, told_halted, told_read}
-use Rattle.pipes_split.proofs.Maps.{greatest-here, greatest-other, first-here, first-other, key-here, key-other, key-kept}
+use Rattle.pipes_split.specs.Rule.{EndsLieBelow, SplitsAgree, WordsHoldEnds, HaltsWereAsked}
+use Rattle.pipes_split.specs.Rule.{CloserKnows}
+use Rattle.pipes_split.specs.AfterSteps.{MySeat, AgreesWith, OpenTells, ClosedTells, NoteSays}
+use Rattle.pipes_split.specs.AfterSteps.{after_raise}
+use Rattle.pipes_split.specs.AfterSteps.{after_look, after_close, after_halt, after_halted}
+use Rattle.pipes_split.specs.AfterSteps.{after_read}
+use Rattle.pipes_split.proofs.Maps.{greatest-here, greatest-other, first-here, first-other}
+use Rattle.pipes_split.proofs.Maps.{key-here, key-other, key-kept}
 use Rattle.pipes_split.proofs.Maps.{none-unless, none-is, same-number, same-there, word-set}
-use Rattle.pipes_split.proofs.Changes.{EpochMove, HaltMove, SameEpoch, NoteFits, rule-moved, epoch-still, halt-still, rule-longer}
+use Rattle.pipes_split.proofs.Changes.{EpochMove, HaltMove, SameEpoch, NoteFits, rule-moved}
+use Rattle.pipes_split.proofs.Changes.{epoch-still, halt-still, rule-longer}
 
 -- the notes of a view that fits
 note-fits : (n e : ℕ) (v w : View) → ViewFits n e v → w.noted_splits ≡ v.noted_splits
@@ -240,7 +250,7 @@ module _ (s : Book) (id e : ℕ) (v : View) (r : SplitRule s) (at : HasView s.vi
       (record { noted_splits = refl; noted_ends = refl; closes = refl }) carried
 
 pub raises : (slots id : ℕ) (me : MySeat) (e x : ℕ) → e < epochs → x ≤ horizon
-    → Allows SplitRule slots id me e (λ n. max n x) (told_raise (step slots e x 0 none) me)
+    → Allows SplitRule slots id me e (λ n. max n x) (after_raise (step slots e x 0 none) me)
 raises slots id me e x inside most s r deep at fits = ⊎_elim free cut (cases_lt n (2 ^ 63))
   where
     n : ℕ
@@ -250,18 +260,18 @@ raises slots id me e x inside most s r deep at fits = ⊎_elim free cut (cases_l
     Goal =
         (w : View) × (a : Act (Unit {0})) × Valid s.homes me.1 a
         × SplitRule (stepped s e (max n x) id me.1 w a)
-        × told_raise (step slots e x 0 none) me n (w, carried_after me.1 a)
+        × after_raise (step slots e x 0 none) me n (w, carried_after me.1 a)
 
     free : n < 2 ^ 63 → Goal
     free h =
         let w = with_end me.0 e x n in
-        let told : OpenTells me.0 e w w =
+        let known : OpenTells me.0 e w w =
         record { unknown = unknown s id e me.0 r at inside h; view = refl } in (
           w,
           keeps,
           tt,
           raised s id e me.0 r at inside x most h me.1,
-          (record { free = λ _. told; cut = λ c. absurd (omega (arith, h, c)) }, refl),
+          (record { free = λ _. known; cut = λ c. absurd (omega (arith, h, c)) }, refl),
         )
 
     cut : 2 ^ 63 ≤ n → Goal
@@ -282,7 +292,7 @@ raises slots id me e x inside most s r deep at fits = ⊎_elim free cut (cases_l
         )
 
 pub looks : (slots id : ℕ) (me : MySeat) (e : ℕ) → e < epochs
-    → Allows SplitRule slots id me e (λ n. n) (told_look (step slots e 0 0 none) me)
+    → Allows SplitRule slots id me e (λ n. n) (after_look (step slots e 0 0 none) me)
 looks slots id me e inside s r deep at fits = ⊎_elim free cut (cases_lt n (2 ^ 63))
   where
     n : ℕ
@@ -292,18 +302,18 @@ looks slots id me e inside s r deep at fits = ⊎_elim free cut (cases_lt n (2 ^
     Goal =
         (w : View) × (a : Act (Unit {0})) × Valid s.homes me.1 a
         × SplitRule (stepped s e n id me.1 w a)
-        × told_look (step slots e 0 0 none) me n (w, carried_after me.1 a)
+        × after_look (step slots e 0 0 none) me n (w, carried_after me.1 a)
 
     free : n < 2 ^ 63 → Goal
     free h =
         let w = with_step (act kind.Look e n) me.0 in
-        let told : OpenTells me.0 e w w =
+        let known : OpenTells me.0 e w w =
         record { unknown = unknown s id e me.0 r at inside h; view = refl } in (
           w,
           keeps,
           tt,
           looked s id e me.0 r at inside h me.1,
-          (record { free = λ _. told; cut = λ c. absurd (omega (arith, h, c)) }, refl),
+          (record { free = λ _. known; cut = λ c. absurd (omega (arith, h, c)) }, refl),
         )
 
     cut : 2 ^ 63 ≤ n → Goal
@@ -330,7 +340,7 @@ or-high n h = let p = or_add_and n (2 ^ 63) in
 
 pub closes : (slots id : ℕ) (me : MySeat) (e : ℕ) → e < last_epoch → me.0.closes ≡ true
     → Allows SplitRule slots id me e (λ n. bit_or n (2 ^ 63))
-    (told_close (step slots e (2 ^ 63) 0 none) me)
+    (after_close (step slots e (2 ^ 63) 0 none) me)
 closes slots id me e early mark s r deep at fits = (
   w,
   keeps,
@@ -413,7 +423,7 @@ number-of i = omega arith
 
 pub halts : (slots id : ℕ) (me : MySeat) (i : ℕ) → i < all_halts
     → Allows SplitRule slots id me (halt_word i) (λ n. bit_or n 1)
-    (told_halt (step slots (halt_word i) 1 0 none) me)
+    (after_halt (step slots (halt_word i) 1 0 none) me)
 halts slots id me i inside s r deep at fits = (
   w,
   keeps,
@@ -444,7 +454,7 @@ halts slots id me i inside s r deep at fits = (
 
 pub halteds : (slots id : ℕ) (me : MySeat) (i : ℕ) → i < all_halts
     → Allows SplitRule slots id me (halt_word i) (λ n. n)
-    (told_halted (step slots (halt_word i) 0 0 none) me)
+    (after_halted (step slots (halt_word i) 0 0 none) me)
 halteds slots id me i inside s r deep at fits = (
   w,
   keeps,
@@ -546,7 +556,7 @@ joins-note id v other u s r at apart there =
         record { splits = a.noted_split; ends = a.noted_end })
 
 pub reads : (slots id : ℕ) (me : MySeat)
-    → Allows SplitRule slots id me 0 (λ n. n) (told_read (step slots 0 0 0 none) me)
+    → Allows SplitRule slots id me 0 (λ n. n) (after_read (step slots 0 0 0 none) me)
 reads slots id me s r deep at fits = (w, keeps, tt, kept, (says, refl, refl))
   where
     w : View
@@ -621,6 +631,9 @@ pub splits-agree : SplitsAgree
 splits-agree s r e i j v w inside at there t u k l =
     (((r.epoch e inside).each i v at).split t k).above
     ∙ sym (((r.epoch e inside).each j w there).split u l).above
+
+pub halts-were-asked : HaltsWereAsked
+halts-were-asked s r i inside = (r.halt i inside).asked_by
 
 pub words-hold-ends : WordsHoldEnds
 words-hold-ends s r e inside =

@@ -5,10 +5,13 @@ use native.Mathlib.Decide.{ℕ_discrete}
 use Rattle.pipes_split.specs.declared.views.View.{View}
 use Rattle.pipes_split.specs.declared.views.Act.{Act}
 use Rattle.pipes_split.specs.declared.views.Kind.{Kind}
-use Rattle.pipes_split.specs.Views.{last_epoch, low, top_of, split_of, with_step, with_end, with_split, with_halt}
-use Rattle.pipes_split.specs.Knowledge.{Knowledge, knows, KnowsMore, KnowsSame, EndRegistered, SplitLearnt, SplitMet, FoundOpen, HaltAsked}
-use Rattle.pipes_split.specs.Told.{AgreesWith, ClosedTells, OpenTells}
-use Rattle.pipes_split.proofs.Maps.{greatest-here, greatest-other, first-here, first-other, key-here, key-other, key-kept}
+use Rattle.pipes_split.specs.Views.{last_epoch, low, top_of, split_of, with_step, with_end}
+use Rattle.pipes_split.specs.Views.{with_split, with_halt}
+use Rattle.pipes_split.specs.Knowledge.{Knowledge, knows, KnowsMore, KnowsSame, EndRegistered}
+use Rattle.pipes_split.specs.Knowledge.{SplitLearnt, SplitMet, FoundOpen, HaltAsked}
+use Rattle.pipes_split.specs.AfterSteps.{AgreesWith, ClosedTells, OpenTells}
+use Rattle.pipes_split.proofs.Maps.{greatest-here, greatest-other, first-here, first-other}
+use Rattle.pipes_split.proofs.Maps.{key-here, key-other, key-kept}
 
 -- ---- an end was registered
 module _ (v : View) (e x n : ℕ) where
@@ -33,9 +36,9 @@ module _ (v : View) (e x n : ℕ) where
 
 pub registered : (v w : View) (e x n : ℕ) → OpenTells v e (with_end v e x n) w
     → EndRegistered (knows v) e x (knows w)
-registered v w e x n told =
-    subst (λ (u : View). EndRegistered (knows v) e x (knows u)) (sym told.view)
-    (with-end v e x n told.unknown)
+registered v w e x n known_to =
+    subst (λ (u : View). EndRegistered (knows v) e x (knows u)) (sym known_to.view)
+    (with-end v e x n known_to.unknown)
 
 -- ---- a split was learnt
 module _ (k : Kind) (v : View) (e n : ℕ) (agrees : AgreesWith n e v) where
@@ -73,9 +76,9 @@ learns k v w e n t early split agrees is =
 
 pub meets : (k : Kind) (v w : View) (e n t : ℕ) → t ≡ low n + 1 → ClosedTells k v e n w
     → SplitMet (knows v) e t (knows w)
-meets k v w e n t split told = record {
-  closer = λ mark. told.closer mark ∙ ap Some (sym split);
-  learnt = learns k v w e n t told.early split told.agrees told.view;
+meets k v w e n t split known_to = record {
+  closer = λ mark. known_to.closer mark ∙ ap Some (sym split);
+  learnt = learns k v w e n t known_to.early split known_to.agrees known_to.view;
 }
 
 -- ---- nothing was learnt
@@ -86,7 +89,11 @@ same_after v w a is =
 
 pub found_open : (v w : View) (e : ℕ) (a : Act) → OpenTells v e (with_step a v) w
     → FoundOpen (knows v) e (knows w)
-found_open v w e a told = record { unknown = told.unknown; same = same_after v w a told.view }
+found_open v w e a known_to = record {
+  unknown = known_to.unknown;
+  same =
+      same_after v w a known_to.view;
+}
 
 pub same_grows : (k l : Knowledge) → KnowsSame k l → KnowsMore k l
 same_grows k l s = record {

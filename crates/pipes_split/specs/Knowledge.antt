@@ -6,11 +6,11 @@ use Rattle.pipes_split.specs.declared.views.View.{View}
 use Rattle.pipes_split.specs.declared.views.Kind.{Kind}
 use Rattle.pipes_split.specs.declared.book.Raised.{Raised}
 use Rattle.pipes_split.specs.declared.book.Raised.TheVariants.{Free, Cut}
-use Rattle.pipes_split.specs.Views.{last_epoch, seat_view, top_of, split_of, has_asked, last_found, low}
+use Rattle.pipes_split.specs.Views.{last_epoch, seat_view, top_of, split_of, has_asked, last_found}
+use Rattle.pipes_split.specs.Views.{low}
 
 -- of each epoch the greatest end that the seat registered, 0 at first, and the split time, where
--- the
--- seat knows it; of each halt word whether the seat set it; and whether the seat closes epochs
+-- the seat knows it; of each halt word whether the seat set it; and whether the seat closes epochs
 pub record Knowledge : Type 0 where
   pub top : ℕ → ℕ
   pub split : ℕ → Option ℕ
@@ -99,13 +99,19 @@ pub record MadeStep (k : Kind) (n : ℕ) (v w : View) : Type 0 where
   pub kind : w.last.kind ≡ k
   pub number : w.last.number ≡ n
 
--- The answer is what the step found: an open word, or a closed one, whose split time is one more
--- than
--- the greatest end in it.
+-- The last step found its epoch open, or closed with this split time, which is one more than the
+-- greatest end that was registered there.
+abbrev pub WasOpen : View → Type 0
+WasOpen w = last_found w < 2 ^ 63
+
+abbrev pub WasClosed : View → ℕ → Type 0
+WasClosed w t = (2 ^ 63 ≤ last_found w) × (t ≡ low (last_found w) + 1)
+
+-- the answer is what the step found
 abbrev pub RaiseFound : View → Raised → Type 0
-RaiseFound w Free = last_found w < 2 ^ 63
-RaiseFound w (Cut t) = (2 ^ 63 ≤ last_found w) × (t ≡ low (last_found w) + 1)
+RaiseFound w Free = WasOpen w
+RaiseFound w (Cut t) = WasClosed w t
 
 abbrev pub LookFound : View → Option ℕ → Type 0
-LookFound w None = last_found w < 2 ^ 63
-LookFound w (Some t) = (2 ^ 63 ≤ last_found w) × (t ≡ low (last_found w) + 1)
+LookFound w None = WasOpen w
+LookFound w (Some t) = WasClosed w t

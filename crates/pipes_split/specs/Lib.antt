@@ -2,5 +2,5 @@ pub mod Views
 pub mod Knowledge
 pub mod Seats
 pub mod Rule
-pub mod Told
+pub mod AfterSteps
 pub mod Cutting

@@ -1,13 +1,15 @@
 -- The rule of the words and the views of all seats, which holds between any two steps, and its
 -- laws.
-use Rattle.std.specs.Prelude.{◌≡◌, ℕ, ◌+◌, ◌^◌, ◌<◌, ◌≤◌, ◌⊎◌, ◌↔◌, true, Some, List, length, slice_index}
+use Rattle.std.specs.Prelude.{◌≡◌, ℕ, ◌+◌, ◌^◌, ◌<◌, ◌≤◌, ◌⊎◌, ◌↔◌, true, Some, List, length}
+use Rattle.std.specs.Prelude.{slice_index}
 use mathlib.Core.Option.{some}
 use lib.ListN.{get_elem?}
 use Rattle.atomic_table.specs.Table.{State}
 use Rattle.pipes_time.specs.Interval.{horizon}
 use Rattle.pipes_split.specs.declared.views.View.{View}
 use Rattle.pipes_split.specs.Views.{epochs, last_epoch, all_halts, all_words, halt_word}
-use Rattle.pipes_split.specs.Views.{greatest_at, first_at, low, IsSplitOf, top_of, split_of, has_asked}
+use Rattle.pipes_split.specs.Views.{greatest_at, first_at, low, IsSplitOf, top_of, split_of}
+use Rattle.pipes_split.specs.Views.{has_asked}
 
 abbrev pub HasView : List View → ℕ → View → Type 0
 HasView views seat v = get_elem? views seat ≡ some v
@@ -35,10 +37,14 @@ pub record EpochRule (n e : ℕ) (views : List View) : Type 0 where
   pub reached : (low n ≡ 0) ⊎ SomeTop views e (low n)
   pub closed_by : 2 ^ 63 ≤ n → CloserKnows views e (low n + 1)
 
+-- some seat set this halt word
+abbrev pub SomeAsked : List View → ℕ → Type 0
+SomeAsked views i = (j : ℕ) × (v : View) × HasView views j v × (has_asked v i ≡ true)
+
 -- A halt word: 0, or 1 where some seat set it.
 pub record HaltRule (n i : ℕ) (views : List View) : Type 0 where
   pub bit : n ≤ 1
-  pub asked_by : n ≡ 1 → (j : ℕ) × (v : View) × HasView views j v × (has_asked v i ≡ true)
+  pub asked_by : n ≡ 1 → SomeAsked views i
 
 -- exactly one seat closes
 abbrev pub OneCloses : List View → Type 0
@@ -81,3 +87,9 @@ WordsHoldEnds =
     (s : Book) → SplitRule s → (e : ℕ) → e < epochs
     → ((low (slice_index s.words e) ≡ 0) ⊎ SomeTop s.views e (low (slice_index s.words e)))
     × ClosedIsKnown (slice_index s.words e) e s.views
+
+-- a halt word is set only where some seat set it
+abbrev pub HaltsWereAsked : Type 0
+HaltsWereAsked =
+    (s : Book) → SplitRule s → (i : ℕ) → i < all_halts
+    → slice_index s.words (halt_word i) ≡ 1 → SomeAsked s.views i

@@ -18,7 +18,7 @@ pub const HALTS: u32 = 16;
 pub type SplitSeat = Seat<(), View>;
 
 /// A book: for each epoch a word with the greatest end that was raised there, until it is closed,
-/// and 16 words by which one thread asks another to halt. Threads share it behind an `Arc`.
+/// and 16 words by which one thread asks another to halt. Threads share it after an `Arc`.
 /// Contracts see which book it is.
 #[derive(Drop)]
 pub struct SplitBook {

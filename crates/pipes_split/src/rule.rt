@@ -16,41 +16,41 @@ impl TableRule<(), View, ()> for BookRule {
 pub struct Raise;
 
 impl Play<(), View> for Raise {
-    ghost use Rattle.pipes_split.specs.Told.{told_raise};
+    ghost use Rattle.pipes_split.specs.AfterSteps.{after_raise};
 
-    ghost then = { told_raise };
+    ghost then = { after_raise };
 }
 
 pub struct Close;
 
 impl Play<(), View> for Close {
-    ghost use Rattle.pipes_split.specs.Told.{told_close};
+    ghost use Rattle.pipes_split.specs.AfterSteps.{after_close};
 
-    ghost then = { told_close };
+    ghost then = { after_close };
 }
 
 pub struct Look;
 
 impl Play<(), View> for Look {
-    ghost use Rattle.pipes_split.specs.Told.{told_look};
+    ghost use Rattle.pipes_split.specs.AfterSteps.{after_look};
 
-    ghost then = { told_look };
+    ghost then = { after_look };
 }
 
 pub struct Halt;
 
 impl Play<(), View> for Halt {
-    ghost use Rattle.pipes_split.specs.Told.{told_halt};
+    ghost use Rattle.pipes_split.specs.AfterSteps.{after_halt};
 
-    ghost then = { told_halt };
+    ghost then = { after_halt };
 }
 
 pub struct Halted;
 
 impl Play<(), View> for Halted {
-    ghost use Rattle.pipes_split.specs.Told.{told_halted};
+    ghost use Rattle.pipes_split.specs.AfterSteps.{after_halted};
 
-    ghost then = { told_halted };
+    ghost then = { after_halted };
 }
 
 // A new seat that knows nothing.
@@ -87,7 +87,7 @@ impl Join<View> for Note {
 pub struct Read;
 
 impl Play<(), View> for Read {
-    ghost use Rattle.pipes_split.specs.Told.{told_read};
+    ghost use Rattle.pipes_split.specs.AfterSteps.{after_read};
 
-    ghost then = { told_read };
+    ghost then = { after_read };
 }

@@ -1,10 +1,15 @@
 // The steps of a seat on its book. Each takes no memory and waits for nobody.
 ghost use Rattle.std.specs.Prelude.{◌≡◌, ◌↔◌, ◌<◌, ◌≤◌, ◌+◌, true, IsTrue};
-ghost use Rattle.pipes_split.specs.declared.views.Kind.TheVariants.{Raise as ARaise, Close as AClose, Look as ALook, Halt as AHalt, Halted as AHalted};
+ghost use Rattle.pipes_split.specs.declared.views.Kind.TheVariants.{Raise as ARaise};
+ghost use Rattle.pipes_split.specs.declared.views.Kind.TheVariants.{Close as AClose, Look as ALook};
+ghost use Rattle.pipes_split.specs.declared.views.Kind.TheVariants.{Halt as AHalt};
+ghost use Rattle.pipes_split.specs.declared.views.Kind.TheVariants.{Halted as AHalted};
 ghost use Rattle.pipes_split.specs.Views.{seat_view, last_found, low};
 ghost use Rattle.pipes_split.specs.Seats.{IsSeatOf, IsSameSeat};
-ghost use Rattle.pipes_split.specs.Knowledge.{seat_knows, KnowsSame, RaiseTells, LookTells, SplitLearnt, HaltAsked, SplitsShared, EndsBelowSplits, MadeStep, RaiseFound, LookFound};
-ghost use Rattle.pipes_split.specs.Rule.{EndsLieBelow, SplitsAgree, WordsHoldEnds};
+ghost use Rattle.pipes_split.specs.Knowledge.{seat_knows, KnowsSame, RaiseTells, LookTells};
+ghost use Rattle.pipes_split.specs.Knowledge.{SplitLearnt, HaltAsked, SplitsShared};
+ghost use Rattle.pipes_split.specs.Knowledge.{EndsBelowSplits, MadeStep, RaiseFound, LookFound};
+ghost use Rattle.pipes_split.specs.Rule.{EndsLieBelow, SplitsAgree, WordsHoldEnds, HaltsWereAsked};
 
 use crate::book::{EPOCHS, HALTS, LAST_EPOCH, Raised, SplitBook, SplitSeat};
 use crate::rule::{Close, Halt, Halted, Look, Note, Raise, Read};
@@ -105,9 +110,9 @@ impl SplitBook {
         self.table.shared.load::<Halted>(seat, word) == 1
     }
 
-    /// Tells `to`, the seat that closes, what `from` knows. It turns out that `to` knew each split
-    /// that `from` knows, and that each end that `from` registered lies below the split that `to`
-    /// knows.
+    /// Tells `to`, the seat that closes, what `from` knows, in two steps of `to`. It turns out that
+    /// `to` knew each split that `from` knows, and that each end that `from` registered lies below
+    /// the split that `to` knows.
     pub fn agree(&self, from: &mut SplitSeat, to: &mut SplitSeat)
         requires from { IsSeatOf self.now from.old }
         requires to { IsSeatOf self.now to.old }
@@ -116,6 +121,7 @@ impl SplitBook {
         ensures to { IsSameSeat to.old to.new }
         ensures same { seat_view from.new ≡ seat_view from.old }
         ensures knows { KnowsSame (seat_knows to.old) (seat_knows to.new) }
+        ensures steps { (seat_view to.new).steps ≡ (seat_view to.old).steps + 2 }
         ensures shared { SplitsShared (seat_knows from.old) (seat_knows to.old) }
         ensures below { EndsBelowSplits (seat_knows from.old) (seat_knows to.old) }
     {
@@ -129,9 +135,12 @@ impl SplitBook {
 /// The laws across seats, between any two steps of any seats in any order. Each end that was
 /// registered in an epoch lies below the split time that any seat knows of it. All seats that know
 /// a split time of an epoch know the same. The word of an epoch holds 0 or an end that some seat
-/// registered, and it is closed exactly where the seat that closes knows its split time.
+/// registered, and it is closed exactly where the seat that closes knows its split time. A halt
+/// word
+/// is set only where some seat set it.
 pub fn seats_agree()
     ensures below { EndsLieBelow }
     ensures same { SplitsAgree }
     ensures words { WordsHoldEnds }
+    ensures halts { HaltsWereAsked }
 {}

@@ -1,11 +1,13 @@
 -- Lists of messages one after another.
-use Rattle.std.proofs.Common.{◌≡◌, ℕ, ◌≤◌, ◌<◌, Bool, true, false, List, [], ◌∷◌, ◌++◌, map, refl, ap, arith}
+use Rattle.std.proofs.Common.{◌≡◌, ℕ, ◌≤◌, ◌<◌, Bool, true, false, List, [], ◌∷◌, ◌++◌, map, refl}
+use Rattle.std.proofs.Common.{ap, arith}
 use Rattle.pipes_time.specs.Interval.{closed, IsInterval}
 use Rattle.pipes_stream.specs.declared.Elem.{Elem}
 use Rattle.pipes_stream.specs.declared.message.Message.{Message}
 use Rattle.pipes_stream.specs.declared.message.Message.TheVariants as message
 use Rattle.pipes_stream.specs.Progress.{Progress}
-use Rattle.pipes_stream.specs.Lists.{CanFollow, after, run, start_of_list, ValidFrom, Valid, beat, HasEnded, elements}
+use Rattle.pipes_stream.specs.Lists.{CanFollow, after, run, start_of_list, ValidFrom, Valid, beat}
+use Rattle.pipes_stream.specs.Lists.{HasEnded, elements}
 
 pub run-append : (p : Progress) (xs ys : List Message) → run p (xs ++ ys) ≡ run (run p xs) ys
 run-append p [] ys = refl

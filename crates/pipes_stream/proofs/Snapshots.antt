@@ -1,9 +1,11 @@
 -- Snapshots of lists of messages.
-use Rattle.std.proofs.Common.{◌≡◌, ℕ, ◌≤◌, ◌<◌, Bool, true, false, ◌&&◌, nat_le, nat_lt, List, [], ◌∷◌, ◌++◌, map, refl, sym, ◌∙◌, ap, arith, append-nil}
+use Rattle.std.proofs.Common.{◌≡◌, ℕ, ◌≤◌, ◌<◌, Bool, true, false, ◌&&◌, nat_le, nat_lt, List, []}
+use Rattle.std.proofs.Common.{◌∷◌, ◌++◌, map, refl, sym, ◌∙◌, ap, arith, append-nil}
 use Rattle.std.specs.List.{All, filter}
 use Rattle.std.proofs.lemmas.Bool.{le-leb, lt-leb}
 use Rattle.std.proofs.lemmas.List.{map-append}
-use Rattle.std.proofs.lemmas.List.Elements.{filter-append, All-nil, All-cons, All-head, All-tail, All-weaker}
+use Rattle.std.proofs.lemmas.List.Elements.{filter-append, All-nil, All-cons, All-head, All-tail}
+use Rattle.std.proofs.lemmas.List.Elements.{All-weaker}
 use Rattle.pipes_time.specs.Interval.{closed, Span}
 use Rattle.pipes_tuple.specs.declared.value.Value.{Value}
 use Rattle.pipes_tuple.proofs.Perm.{Perm, Perm-filter, Perm-map}
@@ -13,7 +15,8 @@ use Rattle.pipes_stream.specs.declared.message.Message.TheVariants as message
 use Rattle.pipes_stream.specs.Progress.{Progress}
 use Rattle.pipes_stream.specs.Snapshot.{is_held, snapshot}
 use Rattle.pipes_stream.specs.Lists.{after, run, start_of_list, ValidFrom, Valid, beat, elements}
-use Rattle.pipes_stream.proofs.Messages.{after-rises, run-rises, beat-closed, valid-prefix, valid-suffix, elements-append}
+use Rattle.pipes_stream.proofs.Messages.{after-rises, run-rises, beat-closed, valid-prefix}
+use Rattle.pipes_stream.proofs.Messages.{valid-suffix, elements-append}
 
 pub snapshot-append : (xs ys : List Elem) (t : ℕ)
     → snapshot (xs ++ ys) t ≡ snapshot xs t ++ snapshot ys t

@@ -1,5 +1,6 @@
 -- What an operator owes: of the lists that it took, by port, and the list that it sent.
-use Rattle.std.specs.Prelude.{◌≡◌, ℕ, zero, suc, ◌≤◌, ◌<◌, ◌+◌, min, Bool, false, cond, eqb, nat_le, nat_lt, List, [], ◌∷◌, ◌++◌, count_by, ⊤}
+use Rattle.std.specs.Prelude.{◌≡◌, ℕ, zero, suc, ◌≤◌, ◌<◌, ◌+◌, min, Bool, false, cond, eqb, nat_le}
+use Rattle.std.specs.Prelude.{nat_lt, List, [], ◌∷◌, ◌++◌, count_by, ⊤}
 use Rattle.std.specs.List.{All, Contains}
 use Rattle.pipes_time.specs.Interval.{closed}
 use Rattle.pipes_tuple.specs.declared.value.Value.{Value}

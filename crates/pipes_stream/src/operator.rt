@@ -8,7 +8,8 @@ use pipes_time::Memory;
 /// those it is lawful: below the heartbeat of what was sent, the snapshots of what was sent are its
 /// meaning on the snapshots of what was taken.
 pub trait Operator {
-    ghost use Rattle.std.specs.Prelude.{◌≡◌, ◌<◌, ◌-◌, ◌^◌, ℕ, Bool, true, false, List, OnOk, OnErr, IsErr, min};
+    ghost use Rattle.std.specs.Prelude.{◌≡◌, ◌<◌, ◌-◌, ◌^◌, ℕ, Bool, true, false, List, OnOk};
+    ghost use Rattle.std.specs.Prelude.{OnErr, IsErr, min};
     ghost use Rattle.std.specs.Bool.{OnTrue};
     ghost use Rattle.pipes_stream.specs.declared.message.Message.{Message as Sent};
     ghost use Rattle.pipes_stream.specs.Lists.{beat};

@@ -1,1 +1,4 @@
 pub mod Waiting
+pub mod Areas
+pub mod Sending
+pub mod Numbers

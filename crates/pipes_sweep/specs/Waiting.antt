@@ -16,7 +16,7 @@ due t waiting = filter (λ e. nat_le e.span.start t) waiting
 abbrev pub later : ℕ → List Elem → List Elem
 later t waiting = filter (λ e. nat_lt t e.span.start) waiting
 
--- with the element behind those that start no later than it
+-- with the element after those that start no later than it
 abbrev pub placed : Elem → List Elem → List Elem
 placed e waiting = due e.span.start waiting ++ e ∷ later e.span.start waiting
 

@@ -1,5 +1,6 @@
 // Elements that wait for their start.
-ghost use Rattle.std.specs.Prelude.{◌≡◌, ◌+◌, ◌≤◌, [], ◌++◌, OnOk, OnErr, MatchOption, length, take, drop, vec_len, vec_capacity};
+ghost use Rattle.std.specs.Prelude.{◌≡◌, ◌+◌, ◌≤◌, [], ◌++◌, OnOk, OnErr, MatchOption, length};
+ghost use Rattle.std.specs.Prelude.{take, drop, vec_len, vec_capacity};
 ghost use Rattle.std.specs.VecDeque.{deque_len};
 ghost use Rattle.pipes_sweep.specs.Waiting.{HasFirst, StartsRise, due, later, placed};
 
@@ -9,7 +10,8 @@ use std::alloc::Global;
 use std::collections::VecDeque;
 use std::marker::Model;
 
-/// Elements that wait for their start, in the order in which they go: by start, and those of one start in the order of putting.
+/// Elements that wait for their start, in the order in which they go: by start, and those of one
+/// start in the order of putting.
 #[derive(Drop)]
 pub struct Hold {
     waiting: VecDeque<Elem>,
@@ -27,19 +29,19 @@ impl Model for Hold {
     ghost invariant = { λ h. StartsRise h.waiting.items };
 }
 
-// How many start at the instant or before it: these are in front.
+// How many start at the instant or before it: these come first.
 fn count_due(waiting: &VecDeque<Elem>, t: u64) -> usize
     requires { StartsRise waiting.now.items }
     ensures bound { result ≤ deque_len waiting.now }
-    ensures front { take result waiting.now.items ≡ due t waiting.now.items }
+    ensures prefix { take result waiting.now.items ≡ due t waiting.now.items }
     ensures back { drop result waiting.now.items ≡ later t waiting.now.items }
 {
     waiting.partition_point(|elem| elem.span.start() <= t)
 }
 
-// Moves so many from the front, in order, where there is room for them.
+// Moves so many from the prefix, in order, where there is room for them.
 #[tactic(auto, using(crate::proofs::Places::moved_more, crate::proofs::Places::rest_more))]
-fn move_front(waiting: &mut VecDeque<Elem>, count: usize, out: &mut Vec<Elem>)
+fn move_first(waiting: &mut VecDeque<Elem>, count: usize, out: &mut Vec<Elem>)
     requires there { count ≤ deque_len waiting.old }
     requires room { vec_len out.old + count ≤ vec_capacity out.old }
     ensures moved { out.new.items ≡ out.old.items ++ take count waiting.old.items }
@@ -64,7 +66,7 @@ impl Hold {
         }
     }
 
-    /// One more element waits, behind those that start no later. Without memory nothing changes.
+    /// One more element waits, after those that start no later. Without memory nothing changes.
     pub fn put(&mut self, elem: Elem) -> Result<(), Memory>
         ensures put { OnOk result (self.new ≡ placed elem self.old) }
         ensures memory { OnErr result (self.new ≡ self.old) }
@@ -76,7 +78,8 @@ impl Hold {
         }
     }
 
-    /// Moves out the elements that start at `t` or before it, in their order. Without memory nothing changes.
+    /// Moves out the elements that start at `t` or before it, in their order. Without memory
+    /// nothing changes.
     #[tactic(auto, using(crate::proofs::Places::rise_due, crate::proofs::Places::rise_later))]
     pub fn release(&mut self, t: u64, out: &mut Vec<Elem>) -> Result<(), Memory>
         ensures order { StartsRise (due t self.old) }
@@ -86,7 +89,7 @@ impl Hold {
     {
         let count = count_due(&self.waiting, t);
         out.reserve(count)?;
-        move_front(&mut self.waiting, count, out);
+        move_first(&mut self.waiting, count, out);
         Ok(())
     }
 

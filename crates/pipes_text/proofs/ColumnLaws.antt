@@ -1,5 +1,7 @@
 -- What is read as columns is in the grammar, and what is in the grammar is read.
-use Rattle.std.proofs.Common.{◌≡◌, ℕ, zero, suc, ◌≤◌, Bool, true, false, List, [], ◌∷◌, ◌++◌, length, Option, Some, None, Ok, refl, sym, ap, subst, ◌∙◌, append_assoc, arith}
+use Rattle.std.proofs.Common.{◌≡◌, ℕ, zero, suc, ◌≤◌, Bool, true, false, List, [], ◌∷◌, ◌++◌}
+use Rattle.std.proofs.Common.{length, Option, Some, None, Ok, refl, sym, ap, subst, ◌∙◌}
+use Rattle.std.proofs.Common.{append_assoc, inl, arith}
 use Rattle.std.proofs.lemmas.List.{append-nil}
 use Rattle.pipes_token.specs.declared.token.Sign.TheVariants.{Close, Comma}
 use Rattle.pipes_token.specs.declared.keyword.Keyword.TheVariants as keyword
@@ -17,13 +19,17 @@ use Rattle.pipes_reader.specs.Taking.{take_name}
 use Rattle.pipes_reader.proofs.Fresh.{fresh}
 use Rattle.pipes_reader.proofs.Readers.{IsReader, Then, both, ThenBefore, turn, turns, reworded}
 use Rattle.pipes_reader.proofs.TokenLists.{both_unended}
-use Rattle.pipes_reader.proofs.Repeats.{Many, last_step, more_steps, ManyBefore, over, last_before, more_before, many_unended, reads_many}
-use Rattle.pipes_reader.proofs.Singles.{One, one, Mapped, mapped, MappedBefore, mapped_before, reads_mapped, Nothing, reads_too_many}
+use Rattle.pipes_reader.proofs.Repeats.{Many, last_step, more_steps, ManyBefore, over, last_before}
+use Rattle.pipes_reader.proofs.Repeats.{more_before, many_unended, reads_many}
+use Rattle.pipes_reader.proofs.Singles.{One, one, Mapped, mapped, MappedBefore, mapped_before}
+use Rattle.pipes_reader.proofs.Singles.{reads_mapped, Nothing, reads_too_many}
 use Rattle.pipes_reader.proofs.Values.{name_value, name_is, name_new, reads_name}
 use Rattle.pipes_text.specs.Grammar.{word_of, kind_of, IsColumn, column, AreColumns, last, more}
 use Rattle.pipes_text.specs.Taking.{comma_of}
-use Rattle.pipes_text.specs.Reading.{Columns, with_column, read_kind, read_comma, read_column, one_too_many, read_columns}
-use Rattle.pipes_text.proofs.Tokens.{word_not_last, kind_not_last, reads_kind, reads_comma, comma_is, close_is}
+use Rattle.pipes_text.specs.Reading.{Columns, with_column, read_kind, read_comma, read_column}
+use Rattle.pipes_text.specs.Reading.{one_too_many, read_columns}
+use Rattle.pipes_text.proofs.Tokens.{word_not_last, word_is, word_steady, kind_not_last}
+use Rattle.pipes_text.proofs.Tokens.{reads_kind, reads_comma, comma_is, close_is}
 
 -- ---- a column, and whether another follows
 
@@ -66,7 +72,7 @@ reads_sort : (columns : Columns) (name : List ℕ)
     (in_turn read_kind
     (λ sort. in_turn read_comma (λ goes. done_with (stepped columns name sort goes))))
 reads_sort columns name =
-    turns (One kind_of) (Anywhere (One kind_of))
+    turns (One kind_of) (One kind_of)
     (λ sort. Mapped (stepped columns name sort) (One comma_of))
     (λ sort. MappedBefore (stepped columns name sort) (Anywhere (One comma_of))) read_kind
     (λ sort. in_turn read_comma (λ goes. done_with (stepped columns name sort goes))) reads_kind
@@ -78,11 +84,11 @@ reads_column : (columns : Columns)
     → IsReader (ColumnIs columns) (ColumnIn columns) AtToken (read_column columns)
 unfolding read_column
 reads_column columns =
-    turns (One (name_value word_of columns.0)) (Anywhere (One (name_value word_of columns.0)))
+    turns (One (name_value word_of columns.0)) (One (name_value word_of columns.0))
     (KindIs columns) (KindIn columns) (take_name word_of columns.0)
     (λ name. in_turn read_kind
     (λ sort. in_turn read_comma (λ goes. done_with (stepped columns name sort goes))))
-    (reads_name word_of columns.0 (λ w. refl) word_not_last)
+    (reads_name word_of columns.0 (λ w. refl) word_not_last word_is word_steady)
     (λ name ks is. reads_sort columns name) (λ name ks is. some_kind columns name)
 
 -- ---- several columns
@@ -198,6 +204,16 @@ step_in columns _ _ _
       value = refl;
       tokens = refl;
     }
+
+-- whatever follows a step
+free_step : (columns : Columns) (o : Columns × Bool) (ks : List TokenKind) (h j : Option TokenKind)
+    → ColumnIn columns o ks h → ColumnIn columns o ks j
+free_step columns _ _ _ j
+    (turn name _ _ _ _ (one w _ e)
+    (turn sort _ _ _ _ (one k _ f) (mapped_before goes _ _ (one c _ g)))) =
+    turn name (stepped columns name sort goes) (w ∷ []) (k ∷ c ∷ []) j (one w name e)
+    (turn sort (stepped columns name sort goes) (k ∷ []) (c ∷ []) j (one k sort f)
+    (mapped_before goes (c ∷ []) j (one c goes g)))
 
 goes_on : (bound next : ℕ → Type 0) → ((n : ℕ) → next n → bound (suc n))
     → (columns c2 all : Columns)
@@ -329,7 +345,7 @@ reads_columns =
     (λ c. reads_too_many (Many ColumnIs c) (some_more c)
     (many_unended ColumnIs (λ d o ks is. (reads_column d).unended o ks is) c) (one_too_many c)
     (λ ts. refl))
-    some_more 32 no_columns)
+    some_more (λ left c c2 ks h is. inl (λ j. free_step c (c2, true) ks h j is)) 32 no_columns)
     (gathered no_columns) (more_unended no_columns) (within 32 no_columns)
     (λ all ks h m. subst
     (λ (z : List TokenKind). ManyBefore ColumnIn (λ c. Nothing) 32 no_columns all z h)

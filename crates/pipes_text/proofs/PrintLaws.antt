@@ -1,12 +1,15 @@
 -- What is printed is a text of the value.
-use Rattle.std.proofs.Common.{◌≡◌, ℕ, zero, suc, ◌+◌, ◌^◌, ◌<◌, ◌≤◌, Bool, true, false, List, [], ◌∷◌, ◌++◌, length, map, Option, Some, refl, sym, ap, subst, ◌∙◌, append_assoc, append-nil, arith}
+use Rattle.std.proofs.Common.{◌≡◌, ℕ, zero, suc, ◌+◌, ◌^◌, ◌<◌, ◌≤◌, Bool, true, false, List, []}
+use Rattle.std.proofs.Common.{◌∷◌, ◌++◌, length, map, Option, Some, refl, sym, ap, subst, ◌∙◌}
+use Rattle.std.proofs.Common.{append_assoc, append-nil, arith}
 use Rattle.std.specs.Prelude.{codes}
 use Rattle.std.specs.Fmt.{decimal}
 use Rattle.pipes_token.specs.declared.token.Sign.TheVariants.{Open, Close, Comma}
 use Rattle.pipes_token.specs.declared.keyword.Keyword.{Keyword as AKeyword}
 use Rattle.pipes_token.specs.declared.keyword.Keyword.TheVariants as keyword
 use Rattle.pipes_token.specs.declared.token.TokenKind.{TokenKind}
-use Rattle.pipes_token.specs.declared.token.TokenKind.TheVariants.{Sign, Keyword, Name, Number, Text, Long, Cut, Byte, End}
+use Rattle.pipes_token.specs.declared.token.TokenKind.TheVariants.{Sign, Keyword, Name, Number}
+use Rattle.pipes_token.specs.declared.token.TokenKind.TheVariants.{Text, Long, Cut, Byte, End}
 use Rattle.pipes_token.specs.declared.token.Token.{Token}
 use Rattle.pipes_token.specs.Keywords.{keyword_text}
 use Rattle.pipes_token.specs.Gaps.{IsPastGap}
@@ -14,9 +17,12 @@ use Rattle.pipes_token.specs.Gaps as gaps
 use Rattle.pipes_token.specs.Spelling.{Spells}
 use Rattle.pipes_token.specs.Tokens.{Tokens, IsPlaced}
 use Rattle.pipes_token.specs.Tokens as lexed
-use Rattle.pipes_token.specs.Writing.{IsApart, BeginsWith, WritesBefore, Writes, WritesFreely, IsSpelled}
+use Rattle.pipes_token.specs.Writing.{IsApart, BeginsWith, WritesBefore, Writes, WritesFreely}
+use Rattle.pipes_token.specs.Writing.{IsSpelled}
 use Rattle.pipes_token.proofs.Gaps.{past_separator}
-use Rattle.pipes_token.proofs.Writing.{write_keyword, write_name, write_number, write_open, write_close, write_comma, write_space_before, write_space_behind, write_then, write_apart_then}
+use Rattle.pipes_token.proofs.Writing.{write_keyword, write_name, write_number, write_open}
+use Rattle.pipes_token.proofs.Writing.{write_close, write_comma, write_space_before}
+use Rattle.pipes_token.proofs.Writing.{write_space_after, write_then, write_apart_then}
 use Rattle.pipes_token.proofs.Quoting.{write_quoted}
 use Rattle.pipes_tuple.specs.declared.value.Kind.{Kind}
 use Rattle.pipes_tuple.specs.declared.value.Kind.TheVariants as kind
@@ -33,10 +39,13 @@ use Rattle.pipes_query.specs.declared.query.SourceDecl.{SourceDecl}
 use Rattle.pipes_query.specs.declared.query.Query.{Query}
 use Rattle.pipes_query.specs.Queries.{names_of}
 use Rattle.pipes_text.specs.Grammar as grammar
-use Rattle.pipes_text.specs.Grammar.{word_of, kind_of, IsColumn, AreColumns, IsSlack, IsWindowText, IsSource, AreSources, IsQuery, query}
+use Rattle.pipes_text.specs.Grammar.{word_of, kind_of, IsColumn, AreColumns, IsSlack, IsWindowText}
+use Rattle.pipes_text.specs.Grammar.{IsSource, AreSources, IsQuery, query}
 use Rattle.pipes_text.specs.Limits.{IsQueryText}
 use Rattle.pipes_text.specs.Texts.{IsTextOfQuery}
-use Rattle.pipes_text.specs.Printing.{kind_text, column_text, more_columns_text, columns_text, slack_text, window_text, source_line, sources_text, plan_line, query_text, HasText}
+use Rattle.pipes_text.specs.Printing.{kind_text, column_text, more_columns_text, columns_text}
+use Rattle.pipes_text.specs.Printing.{slack_text, window_text, source_line, sources_text, plan_line}
+use Rattle.pipes_text.specs.Printing.{query_text, HasText}
 
 -- ---- the tokens of a text are spelled
 
@@ -45,17 +54,17 @@ spelled_one k [] e = tt
 spelled_one k (l ∷ []) e = absurd cc
 spelled_one k (l ∷ m ∷ ks) e = absurd cc
 
-spelled_front : (n : ℕ) (bs : List ℕ) (ts : List Token) → Tokens n bs ts → (ks : List TokenKind)
+spelled_prefix : (n : ℕ) (bs : List ℕ) (ts : List Token) → Tokens n bs ts → (ks : List TokenKind)
     → kinds_of ts ≡ ks ++ (End ∷ []) → AreSpelled ks
-spelled_front n _ _ (lexed.next bs here rest t ts placed begins short others) [] e = tt
-spelled_front n _ _ (lexed.next bs here rest t ts placed begins short others) (k ∷ ks) e =
+spelled_prefix n _ _ (lexed.next bs here rest t ts placed begins short others) [] e = tt
+spelled_prefix n _ _ (lexed.next bs here rest t ts placed begins short others) (k ∷ ks) e =
     let same : t.kind ≡ k = cc in (
       subst (λ (z : TokenKind). IsSpelled z) same (begins.spelling, begins.spells),
-      spelled_front n rest ts others ks (cc),
+      spelled_prefix n rest ts others ks (cc),
     )
-spelled_front n _ _ (lexed.too_long bs here rest t placed begins long) ks e =
+spelled_prefix n _ _ (lexed.too_long bs here rest t placed begins long) ks e =
     spelled_one t.kind ks e
-spelled_front n _ _ (lexed.stopped bs here t placed stops) ks e = spelled_one t.kind ks e
+spelled_prefix n _ _ (lexed.stopped bs here t placed stops) ks e = spelled_one t.kind ks e
 
 spelled_left : (ks ls : List TokenKind) → AreSpelled (ks ++ ls) → AreSpelled ks
 spelled_left [] ls h = tt
@@ -67,18 +76,18 @@ spelled_right (k ∷ ks) ls h = spelled_right ks ls h.1
 
 -- ---- the end of a line
 
-behind : (n : ℕ) (bs here : List ℕ) (token : Token) → IsPlaced n bs here token
+after_it : (n : ℕ) (bs here : List ℕ) (token : Token) → IsPlaced n bs here token
     → IsPlaced n (10 ∷ bs) here token
-behind n bs here token p =
+after_it n bs here token p =
     record { past_gap = past_separator 10 bs here refl p.past_gap; place = p.place }
 
 line_feed : (n : ℕ) (bs : List ℕ) (ts : List Token) → Tokens n bs ts → Tokens n (10 ∷ bs) ts
 line_feed n bs _ (lexed.next _ here rest t ts p h long others) =
-    lexed.next (10 ∷ bs) here rest t ts (behind n bs here t p) h long others
+    lexed.next (10 ∷ bs) here rest t ts (after_it n bs here t p) h long others
 line_feed n bs _ (lexed.too_long _ here rest t p h long) =
-    lexed.too_long (10 ∷ bs) here rest t (behind n bs here t p) h long
+    lexed.too_long (10 ∷ bs) here rest t (after_it n bs here t p) h long
 line_feed n bs _ (lexed.stopped _ here t p h) =
-    lexed.stopped (10 ∷ bs) here t (behind n bs here t p) h
+    lexed.stopped (10 ∷ bs) here t (after_it n bs here t p) h
 
 write_line : (kinds : List TokenKind) (bytes : List ℕ) → Writes kinds bytes
     → WritesFreely kinds (bytes ++ (10 ∷ []))
@@ -97,7 +106,7 @@ free bs = Unit {0}
 
 -- a keyword and a space
 word_then : (k : AKeyword) → WritesFreely (Keyword k ∷ []) (keyword_text k ++ (32 ∷ []))
-word_then k = write_space_behind (Keyword k ∷ []) (keyword_text k) (write_keyword k)
+word_then k = write_space_after (Keyword k ∷ []) (keyword_text k) (write_keyword k)
 
 -- ---- columns
 
@@ -134,11 +143,11 @@ write_column _ _ _ (grammar.IsColumn.column name sort word k e f) s =
     (write_word word name e s.0)
     (write_space_before IsApart (k ∷ []) (kind_text sort) (write_kind k sort f))
 
-behind_comma : (names : List (List ℕ)) (sorts : List Kind) (ks : List TokenKind)
+after_comma : (names : List (List ℕ)) (sorts : List Kind) (ks : List TokenKind)
     → AreColumns names sorts ks
     → more_columns_text names sorts ≡ codes ", " ++ columns_text names sorts
-behind_comma _ _ _ (grammar.AreColumns.last name sort ks is) = refl
-behind_comma _ _ _ (grammar.AreColumns.more name sort names sorts ks ls is are) = refl
+after_comma _ _ _ (grammar.AreColumns.last name sort ks is) = refl
+after_comma _ _ _ (grammar.AreColumns.more name sort names sorts ks ls is are) = refl
 
 write_columns : (names : List (List ℕ)) (sorts : List Kind) (ks : List TokenKind)
     → AreColumns names sorts ks → AreSpelled ks → Writes ks (columns_text names sorts)
@@ -152,7 +161,7 @@ write_columns _ _ _ (grammar.AreColumns.more name sort names sorts ks ls is are)
     (write_space_before IsApart ls (columns_text names sorts) others) in
     let text : columns_text (name ∷ names) (sort ∷ sorts) ≡ column_text name sort ++
     (codes ", " ++ columns_text names sorts) =
-    ap (λ (z : List ℕ). column_text name sort ++ z) (behind_comma names sorts ls are) in
+    ap (λ (z : List ℕ). column_text name sort ++ z) (after_comma names sorts ls are) in
     subst (λ (z : List ℕ). Writes (ks ++ (Sign Comma ∷ ls)) z) (sym text)
     (write_apart_then IsApart ks (Sign Comma ∷ ls) (column_text name sort)
     (codes ", " ++ columns_text names sorts) (λ more. refl)
@@ -253,13 +262,16 @@ write_source _ _ (grammar.IsSource.source s cs ls ws are late lasts) h =
     (codes " from " ++ (quoted s.file ++ (codes " (" ++ tail))) (λ more. refl)
     (write_name s.name h.1.0.1.1 h.1.0.1.2) come in
     let whole : WritesFreely
-    (Keyword keyword.Source ∷ Name s.name ∷ Keyword keyword.From ∷ Text s.file ∷ Sign Open ∷ inside) (codes "source " ++ (s.name ++ (codes " from " ++ (quoted s.file ++ (codes " (" ++ tail))))) =
+    (Keyword keyword.Source ∷ Name s.name ∷ Keyword keyword.From ∷ Text s.file ∷ Sign Open ∷ inside)
+    (codes "source " ++ (s.name ++ (codes " from " ++ (quoted s.file ++ (codes " (" ++ tail)))))
+    =
     write_then free (Keyword keyword.Source ∷ [])
     (Name s.name ∷ Keyword keyword.From ∷ Text s.file ∷ Sign Open ∷ inside) (codes "source ")
     (s.name ++ (codes " from " ++ (quoted s.file ++ (codes " (" ++ tail))))
     (word_then keyword.Source) named in
     subst (λ (z : List ℕ). WritesFreely
-    (Keyword keyword.Source ∷ Name s.name ∷ Keyword keyword.From ∷ Text s.file ∷ Sign Open ∷ inside) z)
+    (Keyword keyword.Source ∷ Name s.name ∷ Keyword keyword.From ∷ Text s.file ∷ Sign Open ∷ inside)
+    z)
     (sym (regroup (codes "source ") s.name (codes " from ") (quoted s.file)
     (codes " (" ++ tail))) whole
 
@@ -325,13 +337,13 @@ text_of_printed q p =
     subst (λ (z : List ℕ). length z ≤ n) (sym (append-nil (query_text q))) (omega arith) in
     let made = p.writes.begins n [] (end ∷ []) short tt (the_end n) in
     record {
-      tokens = made.front ++ (end ∷ []);
-      are = subst (λ (z : List ℕ). Tokens n z (made.front ++ (end ∷ [])))
+      tokens = made.prefix ++ (end ∷ []);
+      are = subst (λ (z : List ℕ). Tokens n z (made.prefix ++ (end ∷ [])))
           (append-nil (query_text q)) made.whole;
       spells = (
         p.kinds,
         p.is,
-        kinds-append made.front (end ∷ [])
+        kinds-append made.prefix (end ∷ [])
             ∙ ap (λ (z : List TokenKind). z ++ (End ∷ [])) made.are,
       );
     }
@@ -341,4 +353,4 @@ printed q h =
     let t = h.1 in
     text_of_printed q
     (printed_by q t.spells.0 t.spells.1.named.spells t.spells.1
-    (spelled_front (length h.0) h.0 t.tokens t.are t.spells.0 t.spells.2))
+    (spelled_prefix (length h.0) h.0 t.tokens t.are t.spells.0 t.spells.2))

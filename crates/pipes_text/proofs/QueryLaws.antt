@@ -1,5 +1,7 @@
 -- What is read as a query is in the grammar, and what is in the grammar is read.
-use Rattle.std.proofs.Common.{◌≡◌, ℕ, zero, suc, ◌+◌, ◌<◌, ◌≤◌, Bool, true, false, List, [], ◌∷◌, ◌++◌, length, map, Option, Some, None, Result, Ok, Err, refl, sym, ap, subst, ◌∙◌, append_assoc, arith}
+use Rattle.std.proofs.Common.{◌≡◌, ℕ, zero, suc, ◌+◌, ◌<◌, ◌≤◌, Bool, true, false, List, [], ◌∷◌}
+use Rattle.std.proofs.Common.{◌++◌, length, map, Option, Some, None, Result, Ok, Err, refl, sym, ap}
+use Rattle.std.proofs.Common.{subst, ◌∙◌, append_assoc, ◌⊎◌, inr, arith}
 use Rattle.std.proofs.lemmas.List.{append-nil, map-append}
 use Rattle.pipes_token.specs.declared.keyword.Keyword.TheVariants as keyword
 use Rattle.pipes_token.specs.declared.token.TokenKind.{TokenKind}
@@ -9,22 +11,31 @@ use Rattle.pipes_token.specs.declared.token.Token.{Token}
 use Rattle.pipes_window.specs.declared.kind.WindowKind.{WindowKind}
 use Rattle.pipes_window.specs.declared.kind.WindowKind.TheVariants as window
 use Rattle.pipes_reader.specs.Names.{is_taken, AreNew}
-use Rattle.pipes_reader.specs.Reading.{Reads, run_out, take_by, in_turn, done_with}
+use Rattle.pipes_reader.specs.Reading.{Reads, refused_by, run_out, take_by, unless, in_turn}
+use Rattle.pipes_reader.specs.Reading.{done_with, many_within}
 use Rattle.pipes_reader.specs.Sentences.{Grammar, GrammarBefore, Anywhere, Begins, ahead, has_last}
-use Rattle.pipes_reader.specs.Places.{AtToken}
+use Rattle.pipes_reader.specs.Places.{AtToken, there}
+use Rattle.pipes_reader.proofs.Causes.{plain_why}
 use Rattle.pipes_reader.proofs.TokenLists.{both_unended}
-use Rattle.pipes_reader.proofs.Readers.{IsReader, Then, both, ThenBefore, turn, turns, reworded}
-use Rattle.pipes_reader.proofs.Repeats.{Many, last_step, more_steps, ManyBefore, over, last_before, more_before, many_unended, reads_many}
-use Rattle.pipes_reader.proofs.Singles.{Pure, pure, reads_none, One, one, Mapped, mapped, MappedBefore, mapped_before, reads_mapped, Nothing, reads_never}
+use Rattle.pipes_reader.proofs.Readers.{IsReader, Then, both, ThenBefore, turn, IsFree}
+use Rattle.pipes_reader.proofs.Readers.{ReadsSome, turns, reworded}
+use Rattle.pipes_reader.proofs.Repeats.{Many, last_step, more_steps, ManyBefore, over, last_before}
+use Rattle.pipes_reader.proofs.Repeats.{more_before, many_unended, StepsOn, reads_many}
+use Rattle.pipes_reader.proofs.Singles.{Pure, pure, reads_none, One, one, Mapped, mapped}
+use Rattle.pipes_reader.proofs.Singles.{MappedBefore, mapped_before, reads_mapped, Nothing}
+use Rattle.pipes_reader.proofs.Singles.{NotNext, Guarded, guarded_by, reads_never, refused_place}
 use Rattle.pipes_query.specs.declared.query.SourceDecl.{SourceDecl}
 use Rattle.pipes_query.specs.Queries.{names_of}
 use Rattle.pipes_text.specs.Grammar.{IsSource, source, AreSources, last, more}
 use Rattle.pipes_text.specs.Limits.{ColumnsNamedOnce, ColumnsWithin}
-use Rattle.pipes_text.specs.Taking.{source_or_plan, plan_of, plan_refused}
-use Rattle.pipes_text.specs.Reading.{read_source, are_some, read_next, source_if, next_source, read_plan_mark, end_sources, read_sources}
-use Rattle.pipes_text.proofs.Tokens.{another_is, plan_is, reads_next, end_is, plan_place, reads_plan_mark}
+use Rattle.pipes_text.specs.Taking.{source_or_plan, another_of, another_refused, plan_of}
+use Rattle.pipes_text.specs.Reading.{read_source, are_some, read_next, source_if, next_source}
+use Rattle.pipes_text.specs.Reading.{read_no_source, read_plan_mark, end_sources, read_sources}
+use Rattle.pipes_text.proofs.Tokens.{another_is, plan_is, reads_next, another_token}
+use Rattle.pipes_text.proofs.Tokens.{another_steady, end_is, reads_plan_mark}
 use Rattle.pipes_text.proofs.ColumnLaws.{any, at_most}
-use Rattle.pipes_text.proofs.SourceLaws.{WindowBefore, IsNewSource, SourceIn, source_unended, reads_source, some_source}
+use Rattle.pipes_text.proofs.SourceLaws.{WindowBefore, IsNewSource, SourceIn, source_unended}
+use Rattle.pipes_text.proofs.SourceLaws.{reads_source, some_source}
 
 -- ---- another source, or the plan
 
@@ -68,7 +79,7 @@ reads_step : (sources : List SourceDecl)
     → IsReader (StepIs sources) (StepIn sources) AtToken (next_source sources)
 unfolding next_source
 reads_step sources =
-    turns (One (next_of sources)) (Anywhere (One (next_of sources))) (NextIs sources)
+    turns (One (next_of sources)) (One (next_of sources)) (NextIs sources)
     (NextIn sources)
     (read_next (are_some sources)) (λ goes. source_if goes sources) (reads_next (are_some sources))
     (λ goes ks is. reads_next_by sources goes) (λ goes ks is. some_next sources goes)
@@ -344,8 +355,9 @@ apart (suc left) sources all _ _ h
 
 -- ---- their reader
 
-pub some_many : (sources : List SourceDecl) → Begins (Many StepIs sources) []
-some_many sources =
+some_further : (sources : List SourceDecl)
+    → Begins (Many StepIs sources) (Keyword keyword.Source ∷ [])
+some_further sources =
     let s = some_source (names_of sources) in
     let all = sources ++ (s.0 ∷ []) in
     let first : StepIs sources (with_source sources s.0) (Keyword keyword.Source ∷ s.1) =
@@ -356,20 +368,25 @@ some_many sources =
     both false (ended_with all) (Keyword keyword.Plan ∷ []) []
     (one (Keyword keyword.Plan) false (plan_next (are_some all) (some_after sources s.0))) pure in (
       all,
-      (Keyword keyword.Source ∷ s.1) ++ (Keyword keyword.Plan ∷ []),
+      s.1 ++ (Keyword keyword.Plan ∷ []),
       more_steps sources all all (Keyword keyword.Source ∷ s.1) (Keyword keyword.Plan ∷ []) first
           (last_step all all (Keyword keyword.Plan ∷ []) last),
     )
+
+pub some_many : (sources : List SourceDecl) → Begins (Many StepIs sources) []
+some_many sources = let s = some_further sources in (s.0, Keyword keyword.Source ∷ s.1, s.2)
 
 steps_unended : (sources all : List SourceDecl) (ks : List TokenKind) → Many StepIs sources all ks
     → has_last ks ≡ false
 steps_unended = many_unended StepIs (λ s o ks is. (reads_step s).unended o ks is)
 
-reads_end_by : (some : Bool) (sources : List SourceDecl) → are_some sources ≡ some
-    → IsReader (Many StepIs sources) (EndBy some sources) AtToken
-    (in_turn (read_plan_mark some) (λ word. done_with sources))
-unfolding read_plan_mark take_by
-reads_end_by true sources e =
+read_end : Bool → List SourceDecl → Reads (List SourceDecl)
+read_end some sources = in_turn (read_plan_mark some) (λ word. done_with sources)
+
+reads_plan_end : (some : Bool) (sources : List SourceDecl) → are_some sources ≡ some
+    → IsReader (Many StepIs sources) (EndBy some sources) AtToken (read_end some sources)
+unfolding read_end read_plan_mark take_by
+reads_plan_end true sources e =
     reworded (EndIs sources) (Many StepIs sources) (EndBy true sources) (EndBy true sources) AtToken
     (in_turn (read_plan_mark true) (λ word. done_with sources))
     (reads_mapped (λ word. sources) (One (plan_of true)) (Anywhere (One (plan_of true)))
@@ -383,9 +400,9 @@ reads_end_by true sources e =
         (last_step sources sources (Keyword keyword.Plan ∷ [])
         (both false (ended_with sources) (Keyword keyword.Plan ∷ []) []
         (one (Keyword keyword.Plan) false (plan_next (are_some sources) e)) pure))
-reads_end_by false sources e =
+reads_plan_end false sources e =
     reads_never (Many StepIs sources) (some_many sources)
-    (steps_unended sources) plan_refused plan_place
+    (steps_unended sources) refused_by refused_place (λ k at. plain_why _ _ _ k at (λ j a. tt))
     (in_turn (read_plan_mark false) (λ word. done_with sources)) at_end refuses
   where
     at_end : in_turn (read_plan_mark false) (λ word. done_with sources) [] ≡ Err run_out
@@ -393,13 +410,62 @@ reads_end_by false sources e =
 
     refuses : (t : Token) (ts : List Token)
         → in_turn (read_plan_mark false) (λ word. done_with sources) (t ∷ ts) ≡ Err
-        (plan_refused t.kind t.at)
+        (refused_by t.kind t.at)
     refuses t ts = refl
+
+-- what begins with the plan's keyword begins with no other source
+not_another : (some : Bool) (sources all : List SourceDecl) (ks : List TokenKind)
+    (h : Option TokenKind) → EndBy some sources all ks h → NotNext another_of (ahead ks h)
+not_another false sources all ks h is = absurd is
+not_another true sources _ _ _ (mapped_before x _ h (one k _ e)) =
+    ap (λ (z : TokenKind). another_of z) (end_is true k x e)
 
 reads_end : (sources : List SourceDecl)
     → IsReader (Many StepIs sources) (EndIn sources) AtToken (end_sources sources)
-unfolding end_sources
-reads_end sources = reads_end_by (are_some sources) sources refl
+unfolding end_sources read_no_source read_end
+reads_end sources =
+    reworded (Many StepIs sources) (Many StepIs sources) (Guarded another_of (EndIn sources))
+    (EndIn sources) AtToken (end_sources sources)
+    (guarded_by (Many StepIs sources) (EndIn sources) AtToken another_of another_refused
+    (read_end (are_some sources) sources) (reads_plan_end (are_some sources) sources refl)
+    another_steady (some_many sources) (λ t x is. there refl)
+    (λ k at x is. (
+      tt,
+      subst (λ (z : TokenKind). Begins (Many StepIs sources) (z ∷ []))
+          (sym (another_token k x is)) (some_further sources),
+    )))
+    (λ all ks is. is) (steps_unended sources) (λ all ks h is. is.0)
+    (λ all ks h is. (is, not_another (are_some sources) sources all ks h is))
+
+-- after a source the plan is read
+reads_plan_next : (left : ℕ) (sources : List SourceDecl) → are_some sources ≡ true
+    → ReadsSome (many_within left next_source end_sources sources)
+unfolding many_within next_source end_sources read_no_source read_next read_plan_mark take_by unless
+reads_plan_next left sources some = (plan_token ∷ [], sources, [], by left)
+  where
+    plan_token : Token
+    plan_token = record { at = 0; kind = Keyword keyword.Plan }
+
+    by : (left : ℕ)
+        → many_within left next_source end_sources sources (plan_token ∷ []) ≡ Ok (sources, [])
+    by zero = rw some refl
+    by (suc left) = rw some refl
+
+steps_on : StepsOn StepIn next_source end_sources
+steps_on left s s2 ks h is = by (s2, true) ks (step_in s (s2, true) ks h is) refl
+  where
+    no : false ≡ true → ⊥
+    no e = cc
+
+    by : (o : List SourceDecl × Bool) (ks : List TokenKind) → StepOf (at_most 32) s o ks
+        → o ≡ (s2, true)
+        → IsFree (StepIn s) (s2, true) ks
+        ⊎ ReadsSome (many_within left next_source end_sources s2)
+    by _ _ (one_more t ss new) e =
+        let same : s ++ (t ∷ []) ≡ s2 = ap (λ (p : List SourceDecl × Bool). p.0) e in
+        inr (reads_plan_next left s2
+        (ap (λ (z : List SourceDecl). are_some z) (sym same) ∙ some_after s t))
+    by _ _ (no_more some) e = absurd (no (ap (λ (p : List SourceDecl × Bool). p.1) e))
 
 -- all sources
 pub record AllSources (limits : List SourceDecl → Type 0) (all : List SourceDecl)
@@ -469,7 +535,8 @@ reads_sources =
     reworded (Many StepIs []) (AllSources anything) (ManyBefore StepIn EndIn 16 [])
     (Anywhere (AllSources (limited 16)))
     AtToken read_sources
-    (reads_many StepIs StepIn EndIn next_source end_sources reads_step reads_end some_many 16 [])
+    (reads_many StepIs StepIn EndIn next_source end_sources reads_step reads_end some_many
+    steps_on 16 [])
     (λ all ks m. all_of anything all ks (gathered [] all ks m)) (all_unended anything)
     (λ all ks h m. all_of (limited 16) all ks (step_within 16 [] all ks h m))
     (λ all ks h is. subst (λ (z : List TokenKind). ManyBefore StepIn EndIn 16 [] all z h)

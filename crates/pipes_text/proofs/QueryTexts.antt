@@ -1,5 +1,7 @@
 -- What is read of a text as a query.
-use Rattle.std.proofs.Common.{◌≡◌, ℕ, suc, ◌+◌, ◌<◌, ◌≤◌, Bool, true, false, List, [], ◌∷◌, ◌++◌, length, map, Option, Some, None, Result, Ok, Err, IfOk, IfErr, refl, sym, ap, subst, ◌∙◌, append_assoc, arith}
+use Rattle.std.proofs.Common.{◌≡◌, ℕ, suc, ◌+◌, ◌<◌, ◌≤◌, Bool, true, false, List, [], ◌∷◌, ◌++◌}
+use Rattle.std.proofs.Common.{length, map, Option, Some, None, Result, Ok, Err, IfOk, IfErr, refl}
+use Rattle.std.proofs.Common.{sym, ap, subst, ◌∙◌, append_assoc, inl, inr, arith}
 use Rattle.std.proofs.lemmas.List.{append-nil}
 use Rattle.std.proofs.lemmas.Bool.{lt-ltb}
 use Rattle.std.proofs.lemmas.Slice.Eq.{bytes_eq-Decides}
@@ -13,12 +15,15 @@ use Rattle.pipes_token.specs.declared.token.Token.{Token}
 use Rattle.pipes_plan.specs.declared.plan.Plan.{Plan}
 use Rattle.pipes_plan.specs.declared.plan.Plan.TheVariants as plan
 use Rattle.pipes_reader.specs.Reading.{Reads, kinds_of, in_turn, done_with}
-use Rattle.pipes_reader.specs.Sentences.{Grammar, GrammarBefore, Anywhere, Begins, next_of, has_last}
+use Rattle.pipes_reader.specs.Sentences.{Grammar, GrammarBefore, Anywhere, Begins, next_of}
+use Rattle.pipes_reader.specs.Sentences.{has_last}
 use Rattle.pipes_reader.specs.Places.{AtToken, there, inside}
 use Rattle.pipes_reader.specs.Texts.{ReadAs, IsReadBy}
 use Rattle.pipes_reader.proofs.TokenLists.{both_unended}
-use Rattle.pipes_reader.proofs.Readers.{IsReader, Then, both, ThenBefore, turn, reads_in_turn, reworded}
-use Rattle.pipes_reader.proofs.Singles.{Pure, pure, none_by, Mapped, mapped, MappedBefore, mapped_before, mapped_by}
+use Rattle.pipes_reader.proofs.Readers.{IsReader, Then, both, ThenBefore, turn, reads_in_turn}
+use Rattle.pipes_reader.proofs.Readers.{reworded}
+use Rattle.pipes_reader.proofs.Singles.{Pure, pure, none_by, Mapped, mapped, MappedBefore}
+use Rattle.pipes_reader.proofs.Singles.{mapped_before, mapped_by}
 use Rattle.pipes_reader.proofs.Wholes.{text_found, text_only, text_refused}
 use Rattle.pipes_grammar.specs.Grammar as grammar
 use Rattle.pipes_grammar.specs.Grammar.{IsPlan, source_named}
@@ -62,7 +67,8 @@ reads_over sources some =
     (reads_plan (names_of sources) some)
     (λ p ks is. none_by (λ before t r. ⊥) (with_plan_of sources p))
     (λ p ks is. (with_plan_of sources p, [], pure))
-    (λ before t r h. h) (λ p front before t r is h. absurd h))
+    (λ p ks h is. inr ([], with_plan_of sources p, [], refl))
+    (λ before t r h. h) (λ p prefix before t r is h. absurd h))
 
 pub first_named : (name : List ℕ) (names : List (List ℕ))
     → source_named (name ∷ names) name ≡ Some 0
@@ -97,11 +103,11 @@ place_first : (before : List Token) (t : Token) (r : Refusal) → AtToken before
 place_first before t r (there e) = place.there e
 place_first before t r (inside e) = place.inside e
 
-place_second : (sources : List SourceDecl) (front before : List Token) (t : Token) (r : Refusal)
-    → AllSources (limited 16) sources (kinds_of front) → IsPlanPlace (names_of sources) before t r
-    → IsQueryPlace (front ++ before) t r
-place_second sources front before t r is h =
-    place.in_plan sources is.ss front before is.are is.ks_is refl h
+place_second : (sources : List SourceDecl) (prefix before : List Token) (t : Token) (r : Refusal)
+    → AllSources (limited 16) sources (kinds_of prefix) → IsPlanPlace (names_of sources) before t r
+    → IsQueryPlace (prefix ++ before) t r
+place_second sources prefix before t r is h =
+    place.in_plan sources is.ss prefix before is.are is.ks_is refl h
 
 parts : (sks ss ps : List TokenKind) → sks ≡ ss ++ (Keyword keyword.Plan ∷ [])
     → sks ++ ps ≡ ss ++ (Keyword keyword.Plan ∷ ps)
@@ -178,8 +184,9 @@ reads_query =
     (reads_in_turn (AllSources anything) (Anywhere (AllSources (limited 16))) OverIs OverIn AtToken
     (λ sources. IsPlanPlace (names_of sources)) IsQueryPlace read_sources query_over reads_sources
     (λ sources ks is. reads_over sources (some_named sources is.ss is.are))
-    (λ sources ks is. some_over sources (some_named sources is.ss is.are)) place_first
-    (λ sources front before t r is h. place_second sources front before t r is h))
+    (λ sources ks is. some_over sources (some_named sources is.ss is.are))
+    (λ sources ks h is. inl (λ j. is)) place_first
+    (λ sources prefix before t r is h. place_second sources prefix before t r is h))
     query_to named_unended query_within (λ q ks h is. query_back q ks h is.named.spells is)
 
 -- ---- its texts
@@ -188,7 +195,8 @@ pub query_found : (bytes : List ℕ) (result : Result Query ReadFault)
     → IsReadBy parse_query bytes result
     → IfOk result (λ q. IsFileOfQuery q bytes)
 query_found bytes (Ok q) is =
-    text_found IsNamedQuery IsQueryText QueryBefore IsQueryPlace IsQueryPlace parse_query reads_query
+    text_found IsNamedQuery IsQueryText QueryBefore IsQueryPlace IsQueryPlace parse_query
+    reads_query
     (λ x ks h it. it) (λ x ks it. it) bytes q is
 query_found bytes (Err f) is = tt
 
@@ -204,7 +212,8 @@ pub query_refused : (bytes : List ℕ) (result : Result Query ReadFault)
     → IfErr result (λ f. QueryCause bytes f)
 query_refused bytes (Ok q) is = tt
 query_refused bytes (Err (fault.Text r)) is =
-    text_refused IsNamedQuery IsQueryText QueryBefore IsQueryPlace IsQueryPlace parse_query reads_query
+    text_refused IsNamedQuery IsQueryText QueryBefore IsQueryPlace IsQueryPlace parse_query
+    reads_query
     (λ x ks h it. it) (λ x ks it. it) (λ before t r p. p) place_first bytes r is
 query_refused bytes (Err fault.Memory) is = tt
 
@@ -220,7 +229,8 @@ some_sources _ _ (query q ss ps are it) = some_source q.sources ss are
 pub query_some : (bytes : List ℕ) (q : Query) → IsFileOfQuery q bytes → 1 ≤ length q.sources
 query_some bytes q is = some_sources q is.text.spells.0 is.text.spells.1.named.spells
 
-pub read_some : (bytes : List ℕ) (result : Result Query ReadFault) → IsReadBy parse_query bytes result
+pub read_some : (bytes : List ℕ) (result : Result Query ReadFault)
+    → IsReadBy parse_query bytes result
     → IfOk result (λ q. 1 ≤ length q.sources)
 read_some bytes (Ok q) is = query_some bytes q (query_found bytes (Ok q) is)
 read_some bytes (Err f) is = tt

@@ -1,22 +1,36 @@
 -- What is read as a script is in the grammar, and what is in the grammar is read.
-use Rattle.std.proofs.Common.{◌≡◌, ℕ, zero, suc, ◌+◌, ◌<◌, ◌≤◌, Bool, true, false, nat_le, List, [], ◌∷◌, ◌++◌, length, Option, Some, None, Ok, refl, sym, ap, subst, ◌∙◌, append_assoc, inl, arith}
+use Rattle.std.proofs.Common.{◌≡◌, ℕ, zero, suc, ◌+◌, ◌<◌, ◌≤◌, Bool, true, false, nat_le, List, []}
+use Rattle.std.proofs.Common.{◌∷◌, ◌++◌, length, Option, Some, None, Ok, refl, sym, ap, subst, ◌∙◌}
+use Rattle.std.proofs.Common.{append_assoc, inl, inr, arith}
 use Rattle.std.proofs.lemmas.List.{append-nil}
 use Rattle.std.proofs.lemmas.Bool.{leb-true, leb-false}
 use Rattle.pipes_time.specs.Interval.{horizon}
 use Rattle.pipes_token.specs.declared.refusal.TextWhy.{TextWhy}
 use Rattle.pipes_token.specs.declared.keyword.Keyword.TheVariants as keyword
 use Rattle.pipes_token.specs.declared.token.TokenKind.{TokenKind}
-use Rattle.pipes_token.specs.declared.token.TokenKind.TheVariants.{Keyword, Name, Number, Text}
+use Rattle.pipes_token.specs.declared.token.TokenKind.TheVariants.{Sign, Keyword, Name, Number}
+use Rattle.pipes_token.specs.declared.token.TokenKind.TheVariants.{Text, Long, Cut, Byte, End}
 use Rattle.pipes_token.specs.declared.token.Token.{Token}
-use Rattle.pipes_reader.specs.Reading.{kinds_of, in_turn, done_with}
+use Rattle.pipes_reader.specs.Reading.{kinds_of, refused_by, optional, unless, in_turn, done_with}
+use Rattle.pipes_reader.specs.Reading.{many_within}
 use Rattle.pipes_reader.specs.Sentences.{Grammar, GrammarBefore, Anywhere, Begins, ahead, has_last}
+use Rattle.pipes_reader.specs.Causes.{AreAlike, itself, two_numbers, two_names, IsLimit}
+use Rattle.pipes_reader.specs.Causes.{other_word}
 use Rattle.pipes_reader.specs.Places.{AtToken, there}
+use Rattle.pipes_reader.proofs.Causes.{HasValue, NoValue, LeafWhy, IsSteady, steady_by, plain_why}
 use Rattle.pipes_reader.specs.Taking.{number_between, take_number, text_of, take_text}
 use Rattle.pipes_reader.proofs.TokenLists.{both_unended}
 use Rattle.pipes_reader.proofs.Readers.{IsReader, Then, both, ThenBefore, turn, turns, reworded}
-use Rattle.pipes_reader.proofs.Repeats.{Many, last_step, more_steps, ManyBefore, over, last_before, more_before, many_unended, reads_many}
-use Rattle.pipes_reader.proofs.Singles.{Pure, pure, reads_none, One, one, NotLast, reads_one, refused_place, Mapped, mapped, MappedBefore, mapped_before, reads_mapped, NotNext, Optional, given, absent, OptionalBefore, given_before, absent_before, TailIs, TailBefore, reads_tail, PureBefore, pure_before, unless_by}
-use Rattle.pipes_reader.proofs.Values.{number_of, some_number, reads_number, text_is, some_text, reads_text}
+use Rattle.pipes_reader.proofs.Repeats.{Many, last_step, more_steps, ManyBefore, over, last_before}
+use Rattle.pipes_reader.proofs.Repeats.{more_before, many_unended, StepsOn, reads_many}
+use Rattle.pipes_reader.proofs.Singles.{Pure, pure, reads_none, One, one, NotLast, HasCauses}
+use Rattle.pipes_reader.proofs.Singles.{reads_one}
+use Rattle.pipes_reader.proofs.Singles.{refused_place, Mapped, mapped, MappedBefore, mapped_before}
+use Rattle.pipes_reader.proofs.Singles.{reads_mapped, NotNext, Optional, given, absent}
+use Rattle.pipes_reader.proofs.Singles.{OptionalBefore, given_before, absent_before, TailIs}
+use Rattle.pipes_reader.proofs.Singles.{TailBefore, reads_tail, Guarded, guarded_by}
+use Rattle.pipes_reader.proofs.Values.{number_of, some_number, reads_number, text_is, some_text}
+use Rattle.pipes_reader.proofs.Values.{reads_text}
 use Rattle.pipes_grammar.specs.Grammar.{source_named}
 use Rattle.pipes_query.specs.declared.script.Command.{Command}
 use Rattle.pipes_query.specs.declared.script.Command.TheVariants as command
@@ -26,9 +40,14 @@ use Rattle.pipes_query.specs.declared.script.Script.{Script}
 use Rattle.pipes_query.specs.Scripts.{HasCommand}
 use Rattle.pipes_text.specs.declared.mark.Start.{Start}
 use Rattle.pipes_text.specs.declared.mark.Start.TheVariants as start
-use Rattle.pipes_text.specs.Scripts.{file_place, with_file, IsCommand, AreCommands, IsScript, migrations, AreOfMode, IsScriptText}
+use Rattle.pipes_text.specs.Scripts.{file_place, with_file, IsCommand, AreCommands, IsScript}
+use Rattle.pipes_text.specs.Scripts.{migrations, AreOfMode, IsScriptText}
 use Rattle.pipes_text.specs.Scripts as grammar
-use Rattle.pipes_text.specs.ScriptReading.{start_of, bar, bar_if, bar_of, barred_by, bar_refused, read_bar, source_of, source_refused, take_source, with_command, with_migrate, read_command, are_most, and_more, command_or_end, next_command, end_commands, no_commands, parse_script}
+use Rattle.pipes_text.specs.ScriptReading.{start_of, bar, bar_if, bar_of, barred_by, bar_refused}
+use Rattle.pipes_text.specs.ScriptReading.{read_bar, source_of, source_refused, take_source}
+use Rattle.pipes_text.specs.ScriptReading.{with_command, with_migrate, read_command, are_most}
+use Rattle.pipes_text.specs.ScriptReading.{and_more, command_or_end, next_command, end_commands}
+use Rattle.pipes_text.specs.ScriptReading.{no_commands, parse_script}
 use Rattle.pipes_text.proofs.QueryTexts.{first_named}
 use Rattle.pipes_text.proofs.ScriptValues.{migrations-append, files_of}
 use Rattle.pipes_text.proofs.SourceLaws.{number_token, number_bounds}
@@ -59,20 +78,61 @@ start_not_last _ x e = absurd cc
 
 -- ---- bars
 
-pure_unended : (x : Unit {0}) (ks : List TokenKind) → Pure tt x ks → has_last ks ≡ false
-pure_unended _ _ pure = refl
-
 barred_place : (o : Option TextWhy) (k : TokenKind) (at : ℕ) → (barred_by o k at).at ≡ at
 barred_place (Some w) k at = refl
 barred_place None k at = refused_place k at
 
-reads_bar : (mode : Mode) (full moved : Bool)
-    → IsReader (Pure tt) (PureBefore (bar_of mode full moved) tt) AtToken (read_bar mode full moved)
-unfolding read_bar
-reads_bar mode full moved =
-    unless_by AtToken (Pure tt) (bar_of mode full moved)
-    (bar_refused mode full moved) tt pure pure_unended
-    (λ t x is. there (barred_place (bar_of mode full moved t.kind) t.kind t.at))
+-- what bars a command is a limit
+abbrev LimitIf : Option TextWhy → Type 0
+LimitIf (Some w) = IsLimit w
+LimitIf None = Unit {0}
+
+bar_limit : (mode : Mode) (full moved : Bool) (s : Start) → LimitIf (bar mode full moved s)
+bar_limit Inline true moved start.Feed = tt
+bar_limit Inline false moved start.Feed = tt
+bar_limit Inline true moved start.Rest = tt
+bar_limit Inline false moved start.Rest = tt
+bar_limit Inline full moved start.Await = tt
+bar_limit Inline true moved start.Migrate = tt
+bar_limit Inline false true start.Migrate = tt
+bar_limit Inline false false start.Migrate = tt
+bar_limit Inline true moved start.Drain = tt
+bar_limit Inline false moved start.Drain = tt
+bar_limit Threaded full moved start.Feed = tt
+bar_limit Threaded full moved start.Rest = tt
+bar_limit Threaded true moved start.Await = tt
+bar_limit Threaded false moved start.Await = tt
+bar_limit Threaded true moved start.Migrate = tt
+bar_limit Threaded false true start.Migrate = tt
+bar_limit Threaded false false start.Migrate = tt
+bar_limit Threaded true moved start.Drain = tt
+bar_limit Threaded false moved start.Drain = tt
+
+bar_steady : (mode : Mode) (full moved : Bool) → IsSteady (bar_of mode full moved)
+bar_steady mode full moved =
+    steady_by (bar_of mode full moved) (λ n m e. refl) (λ v w e. refl)
+
+-- a token that is barred begins a command
+barred_start : (mode : Mode) (full moved : Bool) (k : TokenKind) (at : ℕ) (x : TextWhy)
+    → bar_of mode full moved k ≡ Some x
+    → IsLimit (bar_refused mode full moved k at).why × (first : Start) × (start_of k ≡ Some first)
+barred_start mode full moved k at x e = by (start_of k) refl e
+  where
+    limit_is : (o : Option TextWhy) → o ≡ Some x → LimitIf o → IsLimit (barred_by o k at).why
+    limit_is (Some w) f is = is
+    limit_is None f is = absurd cc
+
+    by : (o : Option Start) → start_of k ≡ o → bar_if mode full moved o ≡ Some x
+        → IsLimit (bar_refused mode full moved k at).why × (first : Start)
+        × (start_of k ≡ Some first)
+    by (Some first) is f = (
+      limit_is (bar_of mode full moved k) e
+          (subst (λ (o : Option Start). LimitIf (bar_if mode full moved o)) (sym is)
+          (bar_limit mode full moved first)),
+      first,
+      is,
+    )
+    by None is f = absurd cc
 
 -- where no command may follow, none does
 bar_all : (mode : Mode) (o : Option Start) → bar_if mode true true o ≡ None → o ≡ None
@@ -118,13 +178,51 @@ some_source : (names : List (List ℕ)) → 0 < length names → Begins (One (so
 some_source [] some = absurd (omega (arith, some))
 some_source (name ∷ names) some = (0, Name name ∷ [], one (Name name) 0 (first_named name names))
 
+abbrev is_name : TokenKind → Bool
+is_name (Name w) = true
+is_name _ = false
+
+-- a word that isn't declared, where another is
+source_causes : (names : List (List ℕ)) → 0 < length names
+    → HasCauses (source_of names) source_refused
+source_causes names some k at is = by k is
+  where
+    declared : (names : List (List ℕ)) → 0 < length names
+        → (w : List ℕ) × HasValue (source_of names) (Name w)
+    declared [] le = absurd (omega (arith, le))
+    declared (name ∷ rest) le = (name, (0, first_named name rest))
+
+    others : (k j : TokenKind) → AreAlike k j → is_name k ≡ false → NoValue (source_of names) k
+        → NoValue (source_of names) j
+    others _ _ (itself k) e none = none
+    others _ _ (two_numbers n m) e none = refl
+    others _ _ (two_names v w) e none = absurd cc
+
+    plain : (k : TokenKind) → is_name k ≡ false → NoValue (source_of names) k
+        → LeafWhy (source_of names) k (refused_by k at).why
+    plain k e none =
+        plain_why (HasValue (source_of names)) ⊥ (NoValue (source_of names)) k at
+        (λ j a. others k j a e none)
+
+    by : (k : TokenKind) → NoValue (source_of names) k
+        → LeafWhy (source_of names) k (source_refused k at).why
+    by (Name w) none = let d = declared names some in other_word (Name w) d.0 tt d.1
+    by (Sign x) none = plain (Sign x) refl none
+    by (Keyword x) none = plain (Keyword x) refl none
+    by (Number x) none = plain (Number x) refl none
+    by (Text x) none = plain (Text x) refl none
+    by (Cut x) none = plain (Cut x) refl none
+    by Long none = plain Long refl none
+    by Byte none = plain Byte refl none
+    by End none = plain End refl none
+
 reads_source : (names : List (List ℕ)) → 0 < length names
     → IsReader (One (source_of names)) (Anywhere (One (source_of names))) AtToken
     (take_source names)
 unfolding take_source
 reads_source names some =
     reads_one (source_of names) source_refused (some_source names some) (source_not_last names)
-    (λ k at is. inl (source_place k at))
+    (λ k at is. inl (source_place k at)) (source_causes names some)
 
 -- ---- a command after its first token
 
@@ -164,7 +262,7 @@ reads_command : (names : List (List ℕ)) → 0 < length names → (s : Script) 
     → IsReader (CommandIs names s first) (CommandIn names s first) AtToken
     (read_command names s first)
 reads_command names some s start.Feed =
-    turns (One (source_of names)) (Anywhere (One (source_of names)))
+    turns (One (source_of names)) (One (source_of names))
     (λ i. Mapped (fed s i) (One counts))
     (λ i. MappedBefore (fed s i) (Anywhere (One counts))) (take_source names)
     (λ i. in_turn (take_number 1 4000000) (λ n. done_with (fed s i n))) (reads_source names some)
@@ -203,48 +301,61 @@ MoreIn names s first = MappedBefore and_more (CommandIn names s first)
 abbrev stop : Script → Script × Bool
 stop s = (s, false)
 
-abbrev EndIs : List (List ℕ) → Script → Unit {0} → Grammar (Script × Bool)
-EndIs names s u = Then (Optional start_of) (TailIs (MoreIs names s) (stop s))
-
-abbrev EndIn : List (List ℕ) → Script → Unit {0} → GrammarBefore (Script × Bool)
-EndIn names s u = ThenBefore (OptionalBefore start_of) (TailBefore (MoreIn names s) (stop s))
-
 abbrev StepIs : List (List ℕ) → Script → Grammar (Script × Bool)
-StepIs names s = Then (Pure tt) (EndIs names s)
+StepIs names s = Then (Optional start_of) (TailIs (MoreIs names s) (stop s))
+
+abbrev EndIn : List (List ℕ) → Script → GrammarBefore (Script × Bool)
+EndIn names s = ThenBefore (OptionalBefore start_of) (TailBefore (MoreIn names s) (stop s))
 
 abbrev StepIn : List (List ℕ) → Mode → Script → GrammarBefore (Script × Bool)
-StepIn names mode s = ThenBefore (PureBefore (bar_of mode false (are_most s)) tt) (EndIn names s)
+StepIn names mode s = Guarded (bar_of mode false (are_most s)) (EndIn names s)
 
 abbrev OverIn : Mode → Script → GrammarBefore Script
-OverIn mode s =
-    ThenBefore (PureBefore {B = Unit {0}} (bar_of mode true true) tt)
-    (λ (u : Unit {0}). Anywhere (Pure s))
+OverIn mode s = Guarded (bar_of mode true true) (Anywhere (Pure s))
 
-reads_end : (names : List (List ℕ)) → 0 < length names → (s : Script) (u : Unit {0})
-    → IsReader (EndIs names s u) (EndIn names s u) AtToken (command_or_end names s)
-reads_end names some s u =
+start_steady : IsSteady start_of
+start_steady = steady_by start_of (λ n m e. refl) (λ v w e. refl)
+
+-- a command that begins with this token
+some_more : (names : List (List ℕ)) → 0 < length names → (s : Script) (k : TokenKind)
+    (first : Start) → start_of k ≡ Some first
+    → (t : Script) × (more : List TokenKind) × StepIs names s (and_more t) (k ∷ more)
+some_more names some s k first e =
+    let c = some_command names some s first in (
+      c.0,
+      c.1,
+      both (Some first) (and_more c.0) (k ∷ []) c.1 (given k first e) (mapped c.0 c.1 c.2),
+    )
+
+reads_end : (names : List (List ℕ)) → 0 < length names → (s : Script)
+    → IsReader (StepIs names s) (EndIn names s) AtToken (command_or_end names s)
+reads_end names some s =
     reads_tail start_of (MoreIs names s) (MoreIn names s)
     (λ first. in_turn (read_command names s first) (λ t. done_with (and_more t)))
-    (stop s) start_not_last
+    (stop s) start_not_last start_steady
     (λ first. reads_mapped and_more (CommandIs names s first) (CommandIn names s first)
     (read_command names s first)
     (reads_command names some s first))
     (λ first. let c = some_command names some s first in (and_more c.0, c.1, mapped c.0 c.1 c.2))
 
-stopping : (names : List (List ℕ)) (s : Script) → EndIs names s tt (stop s) []
+stopping : (names : List (List ℕ)) (s : Script) → StepIs names s (stop s) []
 stopping names s = both None (stop s) [] [] absent pure
 
 reads_step : (names : List (List ℕ)) → 0 < length names → (mode : Mode) (s : Script)
     → IsReader (StepIs names s) (StepIn names mode s) AtToken (next_command names mode s)
-unfolding next_command
+unfolding next_command read_bar
 reads_step names some mode s =
-    turns (Pure tt) (PureBefore (bar_of mode false (are_most s)) tt) (EndIs names s) (EndIn names s)
-    (read_bar mode false (are_most s)) (λ u. command_or_end names s)
-    (reads_bar mode false (are_most s))
-    (λ u ks is. reads_end names some s u) (λ u ks is. (stop s, [], stopping names s))
+    guarded_by (StepIs names s) (EndIn names s) AtToken (bar_of mode false (are_most s))
+    (bar_refused mode false (are_most s)) (command_or_end names s) (reads_end names some s)
+    (bar_steady mode false (are_most s)) (stop s, [], stopping names s)
+    (λ t x is. there (barred_place (bar_of mode false (are_most s) t.kind) t.kind t.at))
+    (λ k at x is.
+    let b = barred_start mode false (are_most s) k at x is in
+    let m = some_more names some s k b.1 b.2 in
+    (b.0, (and_more m.0, m.1, m.2)))
 
 pub some_many : (names : List (List ℕ)) (s : Script) → Begins (Many (StepIs names) s) []
-some_many names s = (s, [], last_step s s [] (both tt (stop s) [] [] pure (stopping names s)))
+some_many names s = (s, [], last_step s s [] (stopping names s))
 
 steps_unended : (names : List (List ℕ)) → 0 < length names → Mode
     → (s t : Script) (ks : List TokenKind)
@@ -254,24 +365,44 @@ steps_unended names some mode =
 
 over_by : (names : List (List ℕ)) (s t : Script) (ls : List TokenKind) → Pure s t ls
     → Many (StepIs names) s t ls
-over_by names s _ _ pure = last_step s s [] (both tt (stop s) [] [] pure (stopping names s))
+over_by names s _ _ pure = last_step s s [] (stopping names s)
 
-over_to : (names : List (List ℕ)) (s t : Script) (ks : List TokenKind)
-    → Then (Pure {A = Unit {0}} tt) (λ (u : Unit {0}). Pure s) t ks → Many (StepIs names) s t ks
-over_to names s _ _ (both u t _ ls pure is) = over_by names s t ls is
+some_further : (names : List (List ℕ)) → 0 < length names → (s : Script) (k : TokenKind)
+    (first : Start) → start_of k ≡ Some first → Begins (Many (StepIs names) s) (k ∷ [])
+some_further names some s k first e =
+    let m = some_more names some s k first e in (
+      m.0,
+      m.1,
+      subst (λ (z : List TokenKind). Many (StepIs names) s m.0 z) (append-nil (k ∷ m.1))
+          (more_steps s m.0 m.0 (k ∷ m.1) [] m.2
+          (last_step m.0 m.0 [] (stopping names m.0))),
+    )
 
 reads_over : (names : List (List ℕ)) → 0 < length names → (mode : Mode) (s : Script)
     → IsReader (Many (StepIs names) s) (OverIn mode s) AtToken (end_commands mode s)
-unfolding end_commands
+unfolding end_commands read_bar
 reads_over names some mode s =
-    reworded (Then (Pure {A = Unit {0}} tt) (λ (u : Unit {0}). Pure s)) (Many (StepIs names) s)
-    (OverIn mode s) (OverIn mode s) AtToken
-    (in_turn (read_bar mode true true) (λ u. done_with s))
-    (turns (Pure tt) (PureBefore (bar_of mode true true) tt) (λ u. Pure s) (λ u. Anywhere (Pure s))
-    (read_bar mode true true) (λ u. done_with s) (reads_bar mode true true)
-    (λ u ks is. reads_none s)
-    (λ u ks is. (s, [], pure)))
-    (over_to names s) (steps_unended names some mode s) (λ t ks h is. is) (λ t ks h is. is)
+    guarded_by (Many (StepIs names) s) (Anywhere (Pure s)) AtToken (bar_of mode true true)
+    (bar_refused mode true true) (done_with s)
+    (reworded (Pure s) (Many (StepIs names) s) (Anywhere (Pure s)) (Anywhere (Pure s)) AtToken
+    (done_with s) (reads_none s) (over_by names s) (steps_unended names some mode s)
+    (λ t ks h is. is) (λ t ks h is. is))
+    (bar_steady mode true true) (some_many names s)
+    (λ t x is. there (barred_place (bar_of mode true true t.kind) t.kind t.at))
+    (λ k at x is.
+    let b = barred_start mode true true k at x is in
+    (b.0, some_further names some s k b.1 b.2))
+
+-- where the text ends, nothing more is read
+steps_on : (names : List (List ℕ)) (mode : Mode)
+    → StepsOn (StepIn names mode) (next_command names mode) (end_commands mode)
+unfolding many_within next_command end_commands read_bar unless optional
+steps_on names mode left s s2 ks h is = inr ([], s2, [], by left)
+  where
+    by : (left : ℕ)
+        → many_within left (next_command names mode) (end_commands mode) s2 [] ≡ Ok (s2, [])
+    by zero = refl
+    by (suc left) = refl
 
 -- ---- a command by its tokens
 
@@ -390,7 +521,7 @@ no_step e = cc
 
 -- what a step made, by the rest of it
 gathered_end : (names : List (List ℕ)) (s t : Script) (goes : Bool) (o : Script × Bool)
-    (ks : List TokenKind) → EndIs names s tt o ks
+    (ks : List TokenKind) → StepIs names s o ks
     → o ≡ pair t goes → (goes ≡ true → CommandOf names s t ks)
     × (goes ≡ false → (s ≡ t) × (ks ≡ []))
 gathered_end names s t goes _ _ (both _ _ _ ks (given k first e) (mapped u _ is)) f = (
@@ -403,21 +534,14 @@ gathered_end names s t goes _ _ (both _ _ _ _ absent pure) f = (
   (λ g. (ap (λ (p : Script × Bool). p.0) f, refl)),
 )
 
-gathered_step : (names : List (List ℕ)) (s : Script) (o : Script × Bool) (ks : List TokenKind)
-    → StepIs names s o ks
-    → EndIs names s tt o ks
-gathered_step names s _ _ (both u o _ ks pure is) = is
-
 gathered : (names : List (List ℕ)) (s t : Script) (ks : List TokenKind) → Many (StepIs names) s t ks
     → MoreCommands names any s t ks
 gathered names _ _ _ (last_step s t ks is) =
-    let e = (gathered_end names s t false (pair t false) ks
-    (gathered_step names s (pair t false) ks is) refl).1 refl in
+    let e = (gathered_end names s t false (pair t false) ks is refl).1 refl in
     subst (λ (z : List TokenKind). MoreCommands names any s t z) (sym e.1)
     (no_more names any tt s t e.0)
 gathered names _ _ _ (more_steps s t u ks ls is rest) =
-    let o = (gathered_end names s t true (pair t true) ks
-    (gathered_step names s (pair t true) ks is) refl).0 refl in
+    let o = (gathered_end names s t true (pair t true) ks is refl).0 refl in
     one_more names any any s t u ks ls o (λ cs h. tt) (gathered names t u ls rest)
 
 -- ---- a script within the limits
@@ -500,7 +624,7 @@ data Taken (names : List (List ℕ)) (mode : Mode) (s : Script) : Script × Bool
 
 module _ (names : List (List ℕ)) (some : 0 < length names) (mode : Mode) where
   end_in : (s : Script) (o : Script × Bool) (ks : List TokenKind) (h : Option TokenKind)
-      → NotNext (bar_of mode false (are_most s)) (ahead ks h) → EndIn names s tt o ks h
+      → NotNext (bar_of mode false (are_most s)) (ahead ks h) → EndIn names s o ks h
       → Taken names mode s o ks h
   end_in s _ _ _ nb (turn _ _ _ ks h (given_before k first _ e) (mapped_before u _ _ is)) =
       goes u k ks h
@@ -511,11 +635,16 @@ module _ (names : List (List ℕ)) (some : 0 < length names) (mode : Mode) where
   step_in : (s : Script) (o : Script × Bool) (ks : List TokenKind) (h : Option TokenKind)
       → StepIn names mode s o ks h
       → Taken names mode s o ks h
-  step_in s _ _ _ (turn u o _ ks h (pure_before _ nb) is) = end_in s o ks h nb is
+  step_in s o ks h (is, nb) = end_in s o ks h nb is
 
   over_in : (s t : Script) (ks : List TokenKind) (h : Option TokenKind) → OverIn mode s t ks h
       → (s ≡ t) × (ks ≡ []) × NotNext start_of h
-  over_in s _ _ _ (turn u _ _ _ h (pure_before _ nb) pure) = (refl, refl, none_next mode h nb)
+  over_in s t ks h (is, nb) = by t ks is nb
+    where
+      by : (t : Script) (ks : List TokenKind) → Pure s t ks
+          → NotNext (bar_of mode true true) (ahead ks h)
+          → (s ≡ t) × (ks ≡ []) × NotNext start_of h
+      by _ _ pure nb = (refl, refl, none_next mode h nb)
 
   least : (left : ℕ) (s : Script) → migrations s.commands ≤ 2048
       → Fits mode left (migrations s.commands) []
@@ -618,61 +747,63 @@ module _ (names : List (List ℕ)) (some : 0 < length names) (mode : Mode) where
       → migrations before + migrations (c ∷ []) ≤ 2048
       → StepIn names mode (script before fs) (pair (script (before ++ (c ∷ [])) gs) true) ks h
   stepped before _ _ _ _ h (grammar.IsCommand.feed fs w i n e low high) of room =
-      let s = script before fs in
-      turn tt (pair (fed s i n) true) [] (Keyword keyword.Feed ∷ Name w ∷ Number n ∷ []) h
-      (pure_before (Some (Keyword keyword.Feed)) (not_feed (are_most s) i n mode of))
-      (turn (Some start.Feed) (pair (fed s i n) true) (Keyword keyword.Feed ∷ [])
-      (Name w ∷ Number n ∷ []) h
-      (given_before (Keyword keyword.Feed) start.Feed (Some (Name w)) refl)
-      (mapped_before (fed s i n) (Name w ∷ Number n ∷ []) h
-      (turn i (fed s i n) (Name w ∷ []) (Number n ∷ []) h (one (Name w) i e)
-      (mapped_before n (Number n ∷ []) h (one (Number n) n (number_of 1 4000000 n low high))))))
+      let s = script before fs in (
+        turn (Some start.Feed) (pair (fed s i n) true) (Keyword keyword.Feed ∷ [])
+            (Name w ∷ Number n ∷ []) h
+            (given_before (Keyword keyword.Feed) start.Feed (Some (Name w)) refl)
+            (mapped_before (fed s i n) (Name w ∷ Number n ∷ []) h
+            (turn i (fed s i n) (Name w ∷ []) (Number n ∷ []) h (one (Name w) i e)
+            (mapped_before n (Number n ∷ []) h (one (Number n) n
+            (number_of 1 4000000 n low high))))),
+        (not_feed (are_most s) i n mode of),
+      )
   stepped before _ _ _ _ h (grammar.IsCommand.rest fs) of room =
-      let s = script before fs in
-      turn tt (pair (with_command s command.Rest) true) [] (Keyword keyword.Rest ∷ []) h
-      (pure_before (Some (Keyword keyword.Rest)) (not_rest (are_most s) mode of))
-      (turn (Some start.Rest) (pair (with_command s command.Rest) true)
-      (Keyword keyword.Rest ∷ []) [] h
-      (given_before (Keyword keyword.Rest) start.Rest h refl)
-      (mapped_before (with_command s command.Rest) [] h pure))
+      let s = script before fs in (
+        turn (Some start.Rest) (pair (with_command s command.Rest) true)
+            (Keyword keyword.Rest ∷ []) [] h
+            (given_before (Keyword keyword.Rest) start.Rest h refl)
+            (mapped_before (with_command s command.Rest) [] h pure),
+        (not_rest (are_most s) mode of),
+      )
   stepped before _ _ _ _ h (grammar.IsCommand.await fs n high) of room =
-      let s = script before fs in
-      turn tt (pair (awaited s n) true) [] (Keyword keyword.Await ∷ Number n ∷ []) h
-      (pure_before (Some (Keyword keyword.Await)) (not_await (are_most s) n mode of))
-      (turn (Some start.Await) (pair (awaited s n) true) (Keyword keyword.Await ∷ [])
-      (Number n ∷ []) h
-      (given_before (Keyword keyword.Await) start.Await (Some (Number n)) refl)
-      (mapped_before (awaited s n) (Number n ∷ []) h
-      (mapped_before n (Number n ∷ []) h
-      (one (Number n) n (number_of 0 horizon n (omega arith) high)))))
+      let s = script before fs in (
+        turn (Some start.Await) (pair (awaited s n) true) (Keyword keyword.Await ∷ [])
+            (Number n ∷ []) h
+            (given_before (Keyword keyword.Await) start.Await (Some (Number n)) refl)
+            (mapped_before (awaited s n) (Number n ∷ []) h
+            (mapped_before n (Number n ∷ []) h
+            (one (Number n) n (number_of 0 horizon n (omega arith) high)))),
+        (not_await (are_most s) n mode of),
+      )
   stepped before _ _ _ _ h (grammar.IsCommand.migrate fs file) of room =
       let s = script before fs in
       let most : are_most s ≡ false = over_most (are_most s) (migrations before) refl
-      (omega (arith, room)) in
-      turn tt (pair (with_migrate s file) true) [] (Keyword keyword.Migrate ∷ Text file ∷ []) h
-      (pure_before (Some (Keyword keyword.Migrate)) (not_migrate (are_most s) mode most))
-      (turn (Some start.Migrate) (pair (with_migrate s file) true) (Keyword keyword.Migrate ∷ [])
-      (Text file ∷ []) h
-      (given_before (Keyword keyword.Migrate) start.Migrate (Some (Text file)) refl)
-      (mapped_before (with_migrate s file) (Text file ∷ []) h
-      (mapped_before file (Text file ∷ []) h (one (Text file) file refl))))
+      (omega (arith, room)) in (
+        turn (Some start.Migrate) (pair (with_migrate s file) true) (Keyword keyword.Migrate ∷ [])
+            (Text file ∷ []) h
+            (given_before (Keyword keyword.Migrate) start.Migrate (Some (Text file)) refl)
+            (mapped_before (with_migrate s file) (Text file ∷ []) h
+            (mapped_before file (Text file ∷ []) h (one (Text file) file refl))),
+        (not_migrate (are_most s) mode most),
+      )
   stepped before _ _ _ _ h (grammar.IsCommand.drain fs) of room =
-      let s = script before fs in
-      turn tt (pair (with_command s command.Drain) true) [] (Keyword keyword.Drain ∷ []) h
-      (pure_before (Some (Keyword keyword.Drain)) (not_drain (are_most s) mode))
-      (turn (Some start.Drain) (pair (with_command s command.Drain) true)
-      (Keyword keyword.Drain ∷ []) [] h
-      (given_before (Keyword keyword.Drain) start.Drain h refl)
-      (mapped_before (with_command s command.Drain) [] h pure))
+      let s = script before fs in (
+        turn (Some start.Drain) (pair (with_command s command.Drain) true)
+            (Keyword keyword.Drain ∷ []) [] h
+            (given_before (Keyword keyword.Drain) start.Drain h refl)
+            (mapped_before (with_command s command.Drain) [] h pure),
+        (not_drain (are_most s) mode),
+      )
 
   ending : (left : ℕ) (s : Script) (h : Option TokenKind) → NotNext start_of h
       → ManyBefore (StepIn names mode) (OverIn mode) left s s [] h
   ending zero s h next =
-      over s s [] h (turn tt s [] [] h (pure_before h (not_barred mode true true h next)) pure)
+      over s s [] h (pure, not_barred mode true true h next)
   ending (suc left) s h next =
-      last_before left s s [] h
-      (turn tt (stop s) [] [] h (pure_before h (not_barred mode false (are_most s) h next))
-      (turn None (stop s) [] [] h (absent_before h next) pure))
+      last_before left s s [] h (
+        turn None (stop s) [] [] h (absent_before h next) pure,
+        not_barred mode false (are_most s) h next,
+      )
 
   back : (left : ℕ) (before total : List Command) (fs hs : List (List ℕ)) (cs : List Command)
       (ks : List TokenKind)
@@ -743,11 +874,13 @@ module _ (names : List (List ℕ)) (some : 0 < length names) (mode : Mode) where
       (parse_script names mode)
       (reads_many (StepIs names) (StepIn names mode) (OverIn mode) (next_command names mode)
       (end_commands mode)
-      (reads_step names some mode) (reads_over names some mode) (some_many names) 65536 no_commands)
+      (reads_step names some mode) (reads_over names some mode) (some_many names)
+      (steps_on names mode) 65536 no_commands)
       (λ t ks m. spelled any t ks (gathered names no_commands t ks m))
       (λ t ks is. script_unended [] t.files t.commands ks is)
       (λ t ks h m. limited t ks h (within 65536 no_commands t ks h m (omega arith)))
-      (λ t ks h is. back 65536 [] t.commands [] t.files t.commands ks h is.0.spells is.0.of_mode is.0.commands (omega (arith, is.0.moves)) refl is.1)
+      (λ t ks h is. back 65536 [] t.commands [] t.files t.commands ks h is.0.spells is.0.of_mode
+      is.0.commands (omega (arith, is.0.moves)) refl is.1)
 
   -- ---- how much there is
 

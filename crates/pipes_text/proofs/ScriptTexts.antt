@@ -1,5 +1,6 @@
 -- What is read of a text as a script.
-use Rattle.std.proofs.Common.{◌≡◌, ℕ, ◌<◌, ◌≤◌, List, length, map, Option, Some, Result, Ok, Err, IfOk, IfErr, ◌∷◌, [], refl, subst, arith}
+use Rattle.std.proofs.Common.{◌≡◌, ℕ, ◌<◌, ◌≤◌, List, length, map, Option, Some, Result, Ok, Err}
+use Rattle.std.proofs.Common.{IfOk, IfErr, ◌∷◌, [], refl, subst, arith}
 use Rattle.pipes_token.specs.declared.refusal.ReadFault.{ReadFault}
 use Rattle.pipes_token.specs.declared.refusal.ReadFault.TheVariants as fault
 use Rattle.pipes_token.specs.declared.token.TokenKind.{TokenKind}

@@ -1,12 +1,15 @@
 -- What is read as a source is in the grammar, and what is in the grammar is read.
-use Rattle.std.proofs.Common.{◌≡◌, ℕ, zero, suc, ◌≤◌, Bool, true, false, List, [], ◌∷◌, ◌++◌, length, Option, Some, None, refl, sym, ap, subst, ◌∙◌, append_assoc, arith}
+use Rattle.std.proofs.Common.{◌≡◌, ℕ, zero, suc, ◌≤◌, Bool, true, false, List, [], ◌∷◌, ◌++◌}
+use Rattle.std.proofs.Common.{length, Option, Some, None, refl, sym, ap, subst, ◌∙◌, append_assoc}
+use Rattle.std.proofs.Common.{inr, arith}
 use Rattle.std.proofs.lemmas.List.{append-nil}
 use Rattle.pipes_time.specs.Interval.{horizon}
 use Rattle.pipes_time.specs.Slides.{IsDuration}
 use Rattle.pipes_token.specs.declared.token.Sign.TheVariants.{Open, Close}
 use Rattle.pipes_token.specs.declared.keyword.Keyword.TheVariants as keyword
 use Rattle.pipes_token.specs.declared.token.TokenKind.{TokenKind}
-use Rattle.pipes_token.specs.declared.token.TokenKind.TheVariants.{Sign, Keyword, Name, Number, Text}
+use Rattle.pipes_token.specs.declared.token.TokenKind.TheVariants.{Sign, Keyword, Name, Number}
+use Rattle.pipes_token.specs.declared.token.TokenKind.TheVariants.{Text}
 use Rattle.pipes_tuple.specs.declared.value.Kind.{Kind}
 use Rattle.pipes_tuple.specs.declared.value.Kind.TheVariants as kind
 use Rattle.pipes_window.specs.declared.kind.WindowKind.{WindowKind}
@@ -17,20 +20,34 @@ use Rattle.pipes_reader.specs.Sentences.{Grammar, GrammarBefore, Anywhere, Begin
 use Rattle.pipes_reader.specs.Places.{AtToken}
 use Rattle.pipes_reader.specs.Taking.{number_between, take_number, text_of, take_text, take_name}
 use Rattle.pipes_reader.proofs.Fresh.{fresh}
-use Rattle.pipes_reader.proofs.TokenLists.{both_unended}
-use Rattle.pipes_reader.proofs.Readers.{IsReader, Then, both, ThenBefore, turn, turns, reworded}
-use Rattle.pipes_reader.proofs.Singles.{Pure, pure, One, one, Mapped, mapped, MappedBefore, mapped_before, reads_mapped, NotNext, Optional, given, absent, OptionalBefore, given_before, absent_before, TailIs, TailBefore, reads_tail}
-use Rattle.pipes_reader.proofs.Values.{IsBetween, number_is, number_of, some_number, reads_number, text_is, some_text, reads_text, name_value, name_is, name_new, reads_name}
+use Rattle.pipes_reader.proofs.TokenLists.{both_unended, tokens_of, kinds-tokens}
+use Rattle.pipes_reader.proofs.Readers.{IsReader, Then, both, ThenBefore, turn, ReadsSome}
+use Rattle.pipes_reader.proofs.Readers.{turns_if, turns, reworded}
+use Rattle.pipes_reader.proofs.Singles.{Pure, pure, One, one, Mapped, mapped, MappedBefore}
+use Rattle.pipes_reader.proofs.Singles.{mapped_before, reads_mapped, NotNext, Optional, given}
+use Rattle.pipes_reader.proofs.Singles.{absent, OptionalBefore, given_before, absent_before, TailIs}
+use Rattle.pipes_reader.proofs.Singles.{TailBefore, reads_tail}
+use Rattle.pipes_reader.proofs.Values.{IsBetween, number_is, number_of, some_number, reads_number}
+use Rattle.pipes_reader.proofs.Values.{text_is, some_text, reads_text, name_value, name_is}
+use Rattle.pipes_reader.proofs.Values.{name_new, reads_name}
 use Rattle.pipes_query.specs.declared.query.SourceDecl.{SourceDecl}
 use Rattle.pipes_text.specs.declared.mark.Mark.TheVariants as mark
 use Rattle.pipes_text.specs.declared.mark.Measure.{Measure}
 use Rattle.pipes_text.specs.declared.mark.Measure.TheVariants as measure
 use Rattle.pipes_text.specs.Grammar as grammar
-use Rattle.pipes_text.specs.Grammar.{AreColumns, IsSlack, in_order, within, IsWindowText, time, slide, count, IsSource, source}
+use Rattle.pipes_text.specs.Grammar.{AreColumns, IsSlack, in_order, within, IsWindowText, time}
+use Rattle.pipes_text.specs.Grammar.{slide, count, IsSource, source}
 use Rattle.pipes_text.specs.Taking.{mark_value, source_word, slack_of, measure_of, slide_of}
-use Rattle.pipes_text.specs.Reading.{Columns, Shape, expect, read_columns, read_slack, read_measure, read_slide, read_size, read_window, read_head, read_shape, declared, read_source}
-use Rattle.pipes_text.proofs.Tokens.{mark_is, mark_token, mark_own, some_mark, reads_mark, source_not_last, source_is, slack_is, slack_not_last, slide_is, slide_not_last, time_is, count_is, reads_measure}
-use Rattle.pipes_text.proofs.ColumnLaws.{More, any, at_most, no_columns, columns_unended, reads_columns}
+use Rattle.pipes_text.specs.Reading.{Columns, Shape, expect, read_columns, read_slack, read_measure}
+use Rattle.pipes_text.specs.Reading.{read_slide, read_size, read_window, read_head, read_shape}
+use Rattle.pipes_text.specs.Reading.{declared, read_source}
+use Rattle.pipes_text.proofs.Tokens.{mark_is, mark_token, mark_own, some_mark, reads_mark}
+use Rattle.pipes_text.proofs.Tokens.{source_not_last, source_is_word, source_steady, source_is}
+use Rattle.pipes_text.proofs.Tokens.{slack_is, slack_not_last, slack_steady, slide_is}
+use Rattle.pipes_text.proofs.Tokens.{slide_not_last, slide_steady, time_is, count_is}
+use Rattle.pipes_text.proofs.Tokens.{reads_measure}
+use Rattle.pipes_text.proofs.ColumnLaws.{More, any, at_most, no_columns, columns_unended}
+use Rattle.pipes_text.proofs.ColumnLaws.{reads_columns}
 
 -- ---- durations
 
@@ -106,6 +123,7 @@ reads_slack =
     reworded (Then (Optional slack_of) (TailIs SlackTail 0)) IsSlack
     (ThenBefore (OptionalBefore slack_of) (TailBefore SlackTailIn 0)) SlackIn AtToken read_slack
     (reads_tail slack_of SlackTail SlackTailIn (λ word. take_number 1 horizon) 0 slack_not_last
+    slack_steady
     (λ word. reads_duration) (λ word. some_duration))
     slack_to slack_unended slack_within (λ n ks h is. slack_back n ks h is.0 is.1)
 
@@ -166,14 +184,14 @@ unfolding read_slide
 reads_slide n =
     reads_tail slide_of (SlideTail n) (SlideTailIn n)
     (λ word. in_turn (take_number 1 horizon) (λ m. done_with (sliding n m)))
-    (window.Time n) slide_not_last
+    (window.Time n) slide_not_last slide_steady
     (λ word. reads_mapped (sliding n) (One duration) (Anywhere (One duration))
     (take_number 1 horizon) reads_duration)
     (some_slide_tail n)
 
 reads_size : (m : Measure) → IsReader (SizeIs m) (SizeIn m) AtToken (read_size m)
 reads_size measure.Time =
-    turns (One duration) (Anywhere (One duration)) SlideIs SlideIn
+    turns (One duration) (One duration) SlideIs SlideIn
     (take_number 1 horizon) read_slide reads_duration
     (λ n ks is. reads_slide n) (λ n ks is. some_slide n)
 reads_size measure.Count =
@@ -271,8 +289,7 @@ reads_window =
     reworded (Then (One measure_of) SizeIs) IsWindowText
     (ThenBefore (Anywhere (One measure_of)) SizeIn) WindowIn
     AtToken read_window
-    (turns (One measure_of)
-    (Anywhere (One measure_of)) SizeIs SizeIn read_measure read_size reads_measure
+    (turns (One measure_of) (One measure_of) SizeIs SizeIn read_measure read_size reads_measure
     (λ m ks is. reads_size m) (λ m ks is. some_size m))
     window_to window_unended window_within (λ w ks h is. window_back w ks h is.0 is.1)
 
@@ -355,7 +372,7 @@ some_file name = (
 reads_file : (name : List ℕ) → IsReader (FileIs name) (FileIn name) AtToken
     (in_turn (expect mark.From) (λ x. in_turn take_text (λ file. done_with (with_file name file))))
 reads_file name =
-    turns (One (mark_value mark.From)) (Anywhere (One (mark_value mark.From)))
+    turns (One (mark_value mark.From)) (One (mark_value mark.From))
     (λ x. Mapped (with_file name) (One text_of))
     (λ x. MappedBefore (with_file name) (Anywhere (One text_of))) (expect mark.From)
     (λ x. in_turn take_text (λ file. done_with (with_file name file))) (reads_mark mark.From)
@@ -369,12 +386,12 @@ unfolding read_head
 reads_head names =
     reworded (HeadIs names) (IsHead names) (HeadIn names) (Anywhere (IsHead names)) AtToken
     (read_head names)
-    (turns (One (name_value source_word names))
-    (Anywhere (One (name_value source_word names))) FileIs FileIn
+    (turns (One (name_value source_word names)) (One (name_value source_word names)) FileIs FileIn
     (take_name source_word names)
     (λ name. in_turn (expect mark.From)
     (λ x. in_turn take_text (λ file. done_with (with_file name file))))
-    (reads_name source_word names (λ w. refl) source_not_last) (λ name ks is. reads_file name)
+    (reads_name source_word names (λ w. refl) source_not_last source_is_word source_steady)
+    (λ name ks is. reads_file name)
     (λ name ks is. some_file name))
     (head_to names) (head_unended names) (head_within names)
     (λ h ks n is. head_back names h ks n is)
@@ -553,7 +570,7 @@ read_late columns = in_turn read_slack (read_last columns)
 reads_last : (columns : Columns) (slack : ℕ)
     → IsReader (LastIs columns slack) (LastIn columns slack) AtToken (read_last columns slack)
 reads_last columns slack =
-    turns (One (mark_value mark.Window)) (Anywhere (One (mark_value mark.Window)))
+    turns (One (mark_value mark.Window)) (One (mark_value mark.Window))
     (λ x. Mapped (shaped columns slack) IsWindowText)
     (λ x. MappedBefore (shaped columns slack) WindowIn)
     (expect mark.Window) (λ x. in_turn read_window (λ w. done_with (shaped columns slack w)))
@@ -561,25 +578,43 @@ reads_last columns slack =
     (λ x ks is. reads_mapped (shaped columns slack) IsWindowText WindowIn read_window reads_window)
     (λ x ks is. let w = some_window in (shaped columns slack w.0, w.1, mapped w.0 w.1 w.2))
 
+-- some window is read
+some_last_read : (columns : Columns) (slack : ℕ) → ReadsSome (read_last columns slack)
+some_last_read columns slack =
+    let w = window.Time 1 in
+    let ws = Keyword keyword.Time ∷ Number 1 ∷ [] in
+    let ts = tokens_of (Keyword keyword.Window ∷ ws) in
+    let is : LastIn columns slack (shaped columns slack w) (Keyword keyword.Window ∷ ws) None =
+    turn tt (shaped columns slack w) (Keyword keyword.Window ∷ []) ws None
+    (one (Keyword keyword.Window) tt refl)
+    (mapped_before w ws None (time 1 (omega arith, omega arith), tt)) in (
+      ts ++ [],
+      shaped columns slack w,
+      [],
+      (reads_last columns slack).only (shaped columns slack w) ts []
+          (subst (λ (z : List TokenKind). LastIn columns slack (shaped columns slack w) z None)
+          (sym (kinds-tokens (Keyword keyword.Window ∷ ws))) is),
+    )
+
 reads_late : (columns : Columns)
     → IsReader (LateIs columns) (LateIn columns) AtToken (read_late columns)
 reads_late columns =
-    turns IsSlack SlackIn (LastIs columns) (LastIn columns) read_slack
+    turns_if IsSlack SlackIn (LastIs columns) (LastIn columns) read_slack
     (read_last columns) reads_slack
     (λ slack ks is. reads_last columns slack) (λ slack ks is. some_last columns slack)
+    (λ slack ks h is. inr (some_last_read columns slack))
 
 reads_inner : (x : Unit {0})
     → IsReader (InnerIs x) (InnerIn x) AtToken (in_turn read_columns read_late)
 reads_inner x =
-    turns (More any no_columns)
-    (Anywhere (More (at_most 32) no_columns)) LateIs LateIn read_columns read_late
+    turns (More any no_columns) (More (at_most 32) no_columns) LateIs LateIn read_columns read_late
     reads_columns (λ columns ks is. reads_late columns) (λ columns ks is. some_late columns)
 
 pub reads_shape : IsReader (IsShape any) ShapeIn AtToken read_shape
 unfolding read_shape
 reads_shape =
     reworded ShapeIs (IsShape any) ShapeTurns ShapeIn AtToken read_shape
-    (turns (One (mark_value mark.Open)) (Anywhere (One (mark_value mark.Open))) InnerIs InnerIn
+    (turns (One (mark_value mark.Open)) (One (mark_value mark.Open)) InnerIs InnerIn
     (expect mark.Open)
     (λ x. in_turn read_columns read_late) (reads_mark mark.Open) (λ x ks is. reads_inner x)
     (λ x ks is. some_inner x))
@@ -685,7 +720,7 @@ unfolding read_source
 reads_source names =
     reworded (SourceIs names) (IsNewSource any names) (SourceTurns names) (SourceIn names) AtToken
     (read_source names)
-    (turns (IsHead names) (Anywhere (IsHead names)) (λ head. Mapped (declared head) (IsShape any))
+    (turns (IsHead names) (IsHead names) (λ head. Mapped (declared head) (IsShape any))
     (λ head. MappedBefore (declared head) ShapeIn) (read_head names)
     (λ head. in_turn read_shape (λ shape. done_with (declared head shape))) (reads_head names)
     (λ head ks is. reads_mapped (declared head) (IsShape any) ShapeIn read_shape reads_shape)
@@ -703,5 +738,6 @@ some_source names = by (fresh names)
         let ks = Name w ∷ Keyword keyword.From ∷ Text [] ∷ [] in (
           shape.0,
           ks ++ shape.1,
-          source_to names shape.0 (ks ++ shape.1) (both (w, []) shape.0 ks shape.1 (h, refl) shape.2),
+          source_to names shape.0 (ks ++ shape.1) (both (w, []) shape.0 ks shape.1
+              (h, refl) shape.2),
         )

@@ -1,21 +1,25 @@
 -- The readers of one token of a query.
-use Rattle.std.proofs.Common.{◌≡◌, ℕ, Bool, true, false, List, [], ◌∷◌, Option, Some, None, refl, ap, inl}
+use Rattle.std.proofs.Common.{◌≡◌, ℕ, Bool, true, false, List, [], ◌∷◌, Option, Some, None, refl}
+use Rattle.std.proofs.Common.{ap}
 use Rattle.pipes_token.specs.declared.token.Sign.TheVariants.{Open, Close, Comma}
 use Rattle.pipes_token.specs.declared.keyword.Keyword.TheVariants as keyword
 use Rattle.pipes_token.specs.declared.token.TokenKind.{TokenKind}
 use Rattle.pipes_token.specs.declared.token.TokenKind.TheVariants.{Sign, Keyword, Name}
 use Rattle.pipes_tuple.specs.declared.value.Kind.TheVariants as kind
-use Rattle.pipes_reader.specs.Reading.{refused_by}
 use Rattle.pipes_reader.specs.Sentences.{Anywhere, Begins}
 use Rattle.pipes_reader.specs.Places.{AtToken}
+use Rattle.pipes_reader.specs.Causes.{IsWord}
+use Rattle.pipes_reader.proofs.Causes.{IsSteady, steady_by}
 use Rattle.pipes_reader.proofs.Readers.{IsReader}
-use Rattle.pipes_reader.proofs.Singles.{One, one, NotLast, Placed, reads_one, refused_place, plainly}
+use Rattle.pipes_reader.proofs.Singles.{One, one, NotLast, reads_plain}
 use Rattle.pipes_text.specs.declared.mark.Mark.{Mark}
 use Rattle.pipes_text.specs.declared.mark.Mark.TheVariants as mark
 use Rattle.pipes_text.specs.declared.mark.Measure.TheVariants as measure
 use Rattle.pipes_text.specs.Grammar.{word_of, kind_of}
-use Rattle.pipes_text.specs.Taking.{is_mark, marked, mark_value, source_word, comma_of, slack_of, measure_of, slide_of, source_or_plan, plan_of, plan_refused}
-use Rattle.pipes_text.specs.Reading.{expect, read_kind, read_comma, read_measure, read_next, read_plan_mark}
+use Rattle.pipes_text.specs.Taking.{is_mark, marked, mark_value, source_word, comma_of, slack_of}
+use Rattle.pipes_text.specs.Taking.{measure_of, slide_of, source_or_plan, another_of, plan_of}
+use Rattle.pipes_text.specs.Reading.{expect, read_kind, read_comma, read_measure, read_next}
+use Rattle.pipes_text.specs.Reading.{read_plan_mark}
 
 -- ---- marks
 
@@ -48,14 +52,18 @@ mark_not_last mark.Open (Sign k) x e = refl
 mark_not_last mark.Window (Keyword k) x e = refl
 mark_not_last _ _ x e = absurd cc
 
+mark_steady : (m : Mark) → IsSteady (mark_value m)
+mark_steady mark.From = steady_by (mark_value mark.From) (λ n m e. refl) (λ v w e. refl)
+mark_steady mark.Open = steady_by (mark_value mark.Open) (λ n m e. refl) (λ v w e. refl)
+mark_steady mark.Window = steady_by (mark_value mark.Window) (λ n m e. refl) (λ v w e. refl)
+
 pub some_mark : (m : Mark) → Begins (One (mark_value m)) []
 some_mark m = (tt, mark_token m ∷ [], one (mark_token m) tt (mark_own m))
 
 pub reads_mark : (m : Mark)
     → IsReader (One (mark_value m)) (Anywhere (One (mark_value m))) AtToken (expect m)
 unfolding expect
-reads_mark m = reads_one (mark_value m) refused_by (some_mark m) (mark_not_last m)
-    (plainly (mark_value m))
+reads_mark m = reads_plain (mark_value m) (some_mark m) (mark_not_last m) (mark_steady m)
 
 -- ---- words
 
@@ -63,6 +71,21 @@ pub word_not_last : NotLast word_of
 word_not_last (Name w) x e = refl
 word_not_last (Keyword k) x e = refl
 word_not_last _ x e = absurd cc
+
+pub word_steady : IsSteady word_of
+word_steady = steady_by word_of (λ n m e. refl) (λ v w e. absurd cc)
+
+pub word_is : (k : TokenKind) (w : List ℕ) → word_of k ≡ Some w → IsWord k
+word_is (Name v) w e = tt
+word_is (Keyword k) w e = tt
+word_is _ w e = absurd cc
+
+pub source_steady : IsSteady source_word
+source_steady = steady_by source_word (λ n m e. refl) (λ v w e. absurd cc)
+
+pub source_is_word : (k : TokenKind) (w : List ℕ) → source_word k ≡ Some w → IsWord k
+source_is_word (Name v) w e = tt
+source_is_word _ w e = absurd cc
 
 pub source_not_last : NotLast source_word
 source_not_last (Name w) x e = refl
@@ -83,9 +106,9 @@ kind_not_last _ x e = absurd cc
 pub reads_kind : IsReader (One kind_of) (Anywhere (One kind_of)) AtToken read_kind
 unfolding read_kind
 reads_kind =
-    reads_one kind_of refused_by
-    (kind.Int, Keyword keyword.Int ∷ [], one (Keyword keyword.Int) kind.Int refl)
-    kind_not_last (plainly kind_of)
+    reads_plain kind_of
+    (kind.Int, Keyword keyword.Int ∷ [], one (Keyword keyword.Int) kind.Int refl) kind_not_last
+    (steady_by kind_of (λ n m e. refl) (λ v w e. refl))
 
 comma_not_last : NotLast comma_of
 comma_not_last (Sign s) x e = refl
@@ -94,9 +117,8 @@ comma_not_last _ x e = absurd cc
 pub reads_comma : IsReader (One comma_of) (Anywhere (One comma_of)) AtToken read_comma
 unfolding read_comma
 reads_comma =
-    reads_one comma_of refused_by
-    (false, Sign Close ∷ [], one (Sign Close) false refl) comma_not_last
-    (plainly comma_of)
+    reads_plain comma_of (false, Sign Close ∷ [], one (Sign Close) false refl) comma_not_last
+    (steady_by comma_of (λ n m e. refl) (λ v w e. refl))
 
 pub comma_is : (k : TokenKind) → comma_of k ≡ Some true → k ≡ Sign Comma
 comma_is (Sign Comma) e = refl
@@ -115,6 +137,12 @@ slack_is _ x e = absurd cc
 pub slack_not_last : NotLast slack_of
 slack_not_last (Keyword k) x e = refl
 slack_not_last _ x e = absurd cc
+
+pub slack_steady : IsSteady slack_of
+slack_steady = steady_by slack_of (λ n m e. refl) (λ v w e. refl)
+
+pub slide_steady : IsSteady slide_of
+slide_steady = steady_by slide_of (λ n m e. refl) (λ v w e. refl)
 
 pub slide_is : (k : TokenKind) (x : Unit {0}) → slide_of k ≡ Some x → k ≡ Keyword keyword.Slide
 slide_is (Keyword keyword.Slide) x e = refl
@@ -139,9 +167,9 @@ measure_not_last _ x e = absurd cc
 pub reads_measure : IsReader (One measure_of) (Anywhere (One measure_of)) AtToken read_measure
 unfolding read_measure
 reads_measure =
-    reads_one measure_of refused_by
+    reads_plain measure_of
     (measure.Time, Keyword keyword.Time ∷ [], one (Keyword keyword.Time) measure.Time refl)
-    measure_not_last (plainly measure_of)
+    measure_not_last (steady_by measure_of (λ n m e. refl) (λ v w e. refl))
 
 -- ---- what follows some sources
 
@@ -161,14 +189,18 @@ next_not_last : (some : Bool) → NotLast (source_or_plan some)
 next_not_last some (Keyword k) x e = refl
 next_not_last _ _ x e = absurd cc
 
+next_steady : (some : Bool) → IsSteady (source_or_plan some)
+next_steady true = steady_by (source_or_plan true) (λ n m e. refl) (λ v w e. refl)
+next_steady false = steady_by (source_or_plan false) (λ n m e. refl) (λ v w e. refl)
+
 pub reads_next : (some : Bool)
     → IsReader (One (source_or_plan some)) (Anywhere (One (source_or_plan some))) AtToken
     (read_next some)
 unfolding read_next
 reads_next some =
-    reads_one (source_or_plan some) refused_by
+    reads_plain (source_or_plan some)
     (true, Keyword keyword.Source ∷ [], one (Keyword keyword.Source) true refl) (next_not_last some)
-    (plainly (source_or_plan some))
+    (next_steady some)
 
 plan_not_last : (some : Bool) → NotLast (plan_of some)
 plan_not_last true (Keyword k) x e = refl
@@ -179,14 +211,17 @@ pub end_is : (some : Bool) (k : TokenKind) (x : Unit {0}) → plan_of some k ≡
 end_is true (Keyword keyword.Plan) x e = refl
 end_is _ _ x e = absurd cc
 
-pub plan_place : (k : TokenKind) (at : ℕ) → (plan_refused k at).at ≡ at
-plan_place (Keyword keyword.Source) at = refl
-plan_place k at = refused_place k at
+pub another_token : (k : TokenKind) (x : Unit {0}) → another_of k ≡ Some x
+    → k ≡ Keyword keyword.Source
+another_token (Keyword keyword.Source) x e = refl
+another_token _ x e = absurd cc
+
+pub another_steady : IsSteady another_of
+another_steady = steady_by another_of (λ n m e. refl) (λ v w e. refl)
 
 pub reads_plan_mark : IsReader (One (plan_of true)) (Anywhere (One (plan_of true))) AtToken
     (read_plan_mark true)
 unfolding read_plan_mark
 reads_plan_mark =
-    reads_one (plan_of true) plan_refused
-    (tt, Keyword keyword.Plan ∷ [], one (Keyword keyword.Plan) tt refl)
-    (plan_not_last true) (λ k at is. inl (plan_place k at))
+    reads_plain (plan_of true) (tt, Keyword keyword.Plan ∷ [], one (Keyword keyword.Plan) tt refl)
+    (plan_not_last true) (steady_by (plan_of true) (λ n m e. refl) (λ v w e. refl))

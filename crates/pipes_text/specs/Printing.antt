@@ -21,7 +21,7 @@ kind_text kind.Flag = codes "flag"
 abbrev pub column_text : List ℕ → Kind → List ℕ
 column_text name sort = name ++ (codes " " ++ kind_text sort)
 
--- each behind a comma
+-- each after a comma
 abbrev pub more_columns_text : List (List ℕ) → List Kind → List ℕ
 more_columns_text (name ∷ names) (sort ∷ sorts) =
     codes ", " ++ (column_text name sort ++ more_columns_text names sorts)

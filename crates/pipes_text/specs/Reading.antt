@@ -4,7 +4,8 @@ use Rattle.pipes_time.specs.Interval.{horizon}
 use Rattle.pipes_tuple.specs.declared.value.Kind.{Kind}
 use Rattle.pipes_window.specs.declared.kind.WindowKind.{WindowKind}
 use Rattle.pipes_window.specs.declared.kind.WindowKind.TheVariants.{Time, Slide, Count}
-use Rattle.pipes_reader.specs.Reading.{Reads, refused_by, too_many, take_by, done_with, in_turn, with_tail, many_within}
+use Rattle.pipes_reader.specs.Reading.{Reads, refused_by, too_many, take_by, done_with, in_turn}
+use Rattle.pipes_reader.specs.Reading.{with_tail, unless, many_within}
 use Rattle.pipes_reader.specs.Taking.{take_number, take_text, take_name}
 use Rattle.pipes_grammar.specs.PlanReading.{parse_plan}
 use Rattle.pipes_query.specs.declared.query.SourceDecl.{SourceDecl}
@@ -15,7 +16,9 @@ use Rattle.pipes_text.specs.declared.mark.Mark.TheVariants as mark
 use Rattle.pipes_text.specs.declared.mark.Measure.{Measure}
 use Rattle.pipes_text.specs.declared.mark.Measure.TheVariants as measure
 use Rattle.pipes_text.specs.Grammar.{word_of, kind_of}
-use Rattle.pipes_text.specs.Taking.{mark_value, source_word, comma_of, slack_of, measure_of, slide_of, source_or_plan, plan_of, plan_refused}
+use Rattle.pipes_text.specs.Taking.{mark_value, source_word, comma_of, slack_of, measure_of}
+use Rattle.pipes_text.specs.Taking.{slide_of, source_or_plan, another_of}
+use Rattle.pipes_text.specs.Taking.{another_refused, plan_of}
 
 unfoldable pub expect : Mark → Reads (Unit {0})
 expect m ts = take_by (mark_value m) refused_by ts
@@ -121,12 +124,17 @@ source_if false sources = done_with (sources, false)
 unfoldable pub next_source : List SourceDecl → Reads (List SourceDecl × Bool)
 next_source sources = in_turn (read_next (are_some sources)) (λ another. source_if another sources)
 
--- the end of the most sources that a query may have
+-- the end of the most sources that a query may have: no other source, and the plan where there
+-- are some
+unfoldable pub read_no_source : Reads (Unit {0})
+read_no_source = unless another_of another_refused tt
+
 unfoldable pub read_plan_mark : Bool → Reads (Unit {0})
-read_plan_mark some ts = take_by (plan_of some) plan_refused ts
+read_plan_mark some ts = take_by (plan_of some) refused_by ts
 
 unfoldable pub end_sources : List SourceDecl → Reads (List SourceDecl)
-end_sources sources = in_turn (read_plan_mark (are_some sources)) (λ word. done_with sources)
+end_sources sources = in_turn read_no_source (λ done. in_turn (read_plan_mark (are_some sources))
+    (λ word. done_with sources))
 
 -- all sources, and `plan`
 unfoldable pub read_sources : Reads (List SourceDecl)

@@ -8,7 +8,8 @@ use Rattle.pipes_token.specs.declared.keyword.Keyword.TheVariants as keyword
 use Rattle.pipes_token.specs.declared.token.TokenKind.{TokenKind}
 use Rattle.pipes_token.specs.declared.token.TokenKind.TheVariants.{Keyword, Name}
 use Rattle.pipes_token.specs.declared.token.Token.{Token}
-use Rattle.pipes_reader.specs.Reading.{Reads, refusal, refused_by, take_by, done_with, in_turn, with_tail, unless, many_within}
+use Rattle.pipes_reader.specs.Reading.{Reads, refusal, refused_by, take_by, done_with, in_turn}
+use Rattle.pipes_reader.specs.Reading.{with_tail, unless, many_within}
 use Rattle.pipes_reader.specs.Taking.{take_number, take_text}
 use Rattle.pipes_grammar.specs.Grammar.{source_named}
 use Rattle.pipes_query.specs.declared.script.Command.{Command}

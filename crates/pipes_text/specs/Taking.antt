@@ -6,7 +6,7 @@ use Rattle.pipes_token.specs.declared.token.Sign.TheVariants.{Open, Close, Comma
 use Rattle.pipes_token.specs.declared.keyword.Keyword.TheVariants as keyword
 use Rattle.pipes_token.specs.declared.token.TokenKind.{TokenKind}
 use Rattle.pipes_token.specs.declared.token.TokenKind.TheVariants.{Sign, Keyword, Name}
-use Rattle.pipes_reader.specs.Reading.{refusal, refused_by}
+use Rattle.pipes_reader.specs.Reading.{refusal}
 use Rattle.pipes_text.specs.declared.mark.Mark.{Mark}
 use Rattle.pipes_text.specs.declared.mark.Mark.TheVariants as mark
 use Rattle.pipes_text.specs.declared.mark.Measure.{Measure}
@@ -66,6 +66,9 @@ plan_of true (Keyword keyword.Plan) = Some tt
 plan_of _ _ = None
 
 -- after the last source that a query may have, another is one too many
-abbrev pub plan_refused : TokenKind → ℕ → Refusal
-plan_refused (Keyword keyword.Source) at = refusal at why.Many
-plan_refused k at = refused_by k at
+abbrev pub another_of : TokenKind → Option (Unit {0})
+another_of (Keyword keyword.Source) = Some tt
+another_of _ = None
+
+abbrev pub another_refused : TokenKind → ℕ → Refusal
+another_refused k at = refusal at why.Many

@@ -8,7 +8,7 @@ ghost use Rattle.pipes_text.specs.Reading as spec;
 
 use crate::names::names_of;
 use crate::source::read_source;
-use crate::take::{read_next, read_plan_mark};
+use crate::take::{read_next, read_no_source, read_plan_mark};
 use pipes_grammar::read_plan;
 use pipes_query::{Query, SourceDecl, Sources};
 use pipes_reader::{Cursor, Entries, ParseFault, Parser, many_within, read_text};
@@ -51,6 +51,7 @@ impl Entries<()> for SourceList {
 
     #[tactic(auto, unfolding(crate::specs::Reading::end_sources))]
     fn over(&mut self, _context: &(), cursor: &mut Cursor<'_>) -> Result<(), ParseFault> {
+        read_no_source(cursor)?;
         read_plan_mark(!self.sources.is_empty(), cursor)
     }
 }

@@ -1,5 +1,6 @@
 // Reading scripts.
-ghost use Rattle.std.specs.Prelude.{◌≡◌, ◌≤◌, ◌<◌, ◌^◌, ◌∷◌, [], Some, false, IfOk, IfErr, OnOk, length};
+ghost use Rattle.std.specs.Prelude.{◌≡◌, ◌≤◌, ◌<◌, ◌^◌, ◌∷◌, [], Some, false, IfOk, IfErr, OnOk};
+ghost use Rattle.std.specs.Prelude.{length};
 ghost use Rattle.pipes_query.specs.declared.script.Script.{Script as AScript};
 ghost use Rattle.pipes_reader.specs.Reading.{Takes};
 ghost use Rattle.pipes_reader.specs.Texts.{ReadAs};
@@ -154,7 +155,8 @@ impl Model for ScriptList {
 
     ghost view = { λ l. record { commands = l.commands.items; files = l.files.items } };
 
-    ghost invariant = { λ l. (l.moves ≡ migrations l.commands.items) × (vec_len l.files ≤ l.moves) };
+    ghost invariant = { λ l. (l.moves ≡ migrations l.commands.items)
+        × (vec_len l.files ≤ l.moves) };
 }
 
 impl ScriptList {

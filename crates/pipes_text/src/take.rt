@@ -125,15 +125,20 @@ fn plan_of(some: bool, kind: &TokenKind) -> Option<()>
     }
 }
 
-fn plan_refused(token: &Token) -> Refusal
-    ensures { result ≡ value.plan_refused token.now.kind token.now.at }
+// Refuses another source, after the last that a query may have.
+#[tactic(auto, unfolding(crate::specs::Reading::read_no_source, pipes_reader::specs::Reading::unless))]
+pub fn read_no_source(cursor: &Cursor<'_>) -> Result<(), ParseFault>
+    ensures { Takes (λ done. done) spec.read_no_source cursor.now cursor.now result }
 {
-    match token.kind {
-        TokenKind::Keyword(Keyword::Source) => Refusal {
-            at: token.at,
-            why: TextWhy::Many,
+    match cursor.rest() {
+        [token, ..] => match token.kind {
+            TokenKind::Keyword(Keyword::Source) => Err(ParseFault::Refused(Refusal {
+                at: token.at,
+                why: TextWhy::Many,
+            })),
+            _ => Ok(()),
         },
-        _ => refused(token),
+        [] => Ok(()),
     }
 }
 
@@ -144,7 +149,7 @@ pub fn read_plan_mark(some: bool, cursor: &mut Cursor<'_>) -> Result<(), ParseFa
 {
     match cursor.rest() {
         [] => Err(ParseFault::Refused(ran_out())),
-        [token, ..] => cursor.take(plan_of(some, &token.kind), plan_refused(token)),
+        [token, ..] => cursor.take(plan_of(some, &token.kind), refused(token)),
     }
 }
 

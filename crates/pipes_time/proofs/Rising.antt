@@ -15,7 +15,8 @@ module _ {X : Type 0} (key : X → ℕ) where
   pub rises-above : (low : ℕ) (xs : List X) → RisesBy key low xs → All (λ x. low ≤ key x) xs
   rises-above low [] up = All-nil (λ x. low ≤ key x)
   rises-above low (x ∷ xs) up =
-      All-cons (λ x. low ≤ key x) x xs up.0 (rises-above low xs (rises-lower low (key x) xs up.0 up.1))
+      All-cons (λ x. low ≤ key x) x xs up.0 (rises-above low xs
+      (rises-lower low (key x) xs up.0 up.1))
 
   -- a key is at most any later one
   pub rises-sorted : (low : ℕ) (xs : List X) → RisesBy key low xs → IsNonDecreasingBy key xs

@@ -4,7 +4,8 @@
 ghost use Rattle.std.specs.Prelude.{◌≡◌, ◌+◌, ◌<◌, IfSome, IsSome, IsTrue, ◌↔◌};
 ghost use Rattle.pipes_time.specs.Interval.{IsPart};
 ghost use Rattle.pipes_time.specs.Slides as slides;
-ghost use Rattle.pipes_time.specs.Slides.{HasSlideSpan, IsDuration, IsInSlide, slide_interval, time_interval};
+ghost use Rattle.pipes_time.specs.Slides.{HasSlideSpan, IsDuration, IsInSlide, slide_interval};
+ghost use Rattle.pipes_time.specs.Slides.{time_interval};
 
 mod interval;
 mod memory;

@@ -1,11 +1,14 @@
 -- What a token is, by its first byte and its bytes: there is one kind alone that they spell.
-use Rattle.std.proofs.Common.{◌≡◌, ℕ, ◌-◌, ◌^◌, ◌≤◌, min, Bool, true, false, cond, ◌&&◌, List, [], ◌∷◌, ◌++◌, length, Option, Some, None, refl, sym, ap, subst, true≢false, ◌∙◌, arith, inl, inr, ◌⊎◌, nat_lt, nat_le}
+use Rattle.std.proofs.Common.{◌≡◌, ℕ, ◌-◌, ◌^◌, ◌≤◌, min, Bool, true, false, cond, ◌&&◌, List, []}
+use Rattle.std.proofs.Common.{◌∷◌, ◌++◌, length, Option, Some, None, refl, sym, ap, subst}
+use Rattle.std.proofs.Common.{true≢false, ◌∙◌, arith, inl, inr, ◌⊎◌, nat_lt, nat_le}
 use Rattle.std.specs.Prelude.{◌==◌, if◌then◌else◌}
 use Rattle.std.specs.Char.{is_ascii_lowercase, is_ascii_digit}
 use Rattle.std.specs.List.{list_all, find}
 use Rattle.std.specs.Str.{bytes_eq}
 use Rattle.std.specs.Str.Parse.{digits_value}
-use Rattle.std.proofs.lemmas.Bool.{and_parts, le-ltb, lt-ltb, leb-true, cases_Bool, cond-true, cond-false}
+use Rattle.std.proofs.lemmas.Bool.{and_parts, le-ltb, lt-ltb, leb-true, cases_Bool, cond-true}
+use Rattle.std.proofs.lemmas.Bool.{cond-false}
 use Rattle.std.proofs.lemmas.Bool.Decides.{nat_tests}
 use Rattle.std.proofs.lemmas.Slice.Eq.{bytes_eq-Decides}
 use Rattle.pipes_token.proofs.Strings.{same_string}
@@ -16,10 +19,12 @@ use Rattle.pipes_token.specs.declared.keyword.TheConstants.{KEYWORDS}
 use Rattle.pipes_token.specs.declared.token.Sign.{Sign as ASign}
 use Rattle.pipes_token.specs.declared.token.Sign.TheVariants as sign
 use Rattle.pipes_token.specs.declared.token.TokenKind.{TokenKind}
-use Rattle.pipes_token.specs.declared.token.TokenKind.TheVariants.{Sign, Keyword, Name, Number, Text, Long, Cut, Byte, End}
+use Rattle.pipes_token.specs.declared.token.TokenKind.TheVariants.{Sign, Keyword, Name, Number}
+use Rattle.pipes_token.specs.declared.token.TokenKind.TheVariants.{Text, Long, Cut, Byte, End}
 use Rattle.pipes_token.specs.Keywords.{keyword_text}
 use Rattle.pipes_token.specs.Strings.{IsString}
-use Rattle.pipes_token.specs.Spelling.{sign_text, is_word_byte, is_word, IsKeyword, IsShortWord, IsLongWord, IsLongString, Spells}
+use Rattle.pipes_token.specs.Spelling.{sign_text, is_word_byte, is_word, IsKeyword, IsShortWord}
+use Rattle.pipes_token.specs.Spelling.{IsLongWord, IsLongString, Spells}
 
 -- ---- keywords and signs by their spelling
 
@@ -71,7 +76,8 @@ same_keyword k l e =
     let some : Some k ≡ Some l = sym (keyword_again k) ∙ ap keyword_of e ∙ keyword_again l in
     cc
 
-pub keyword_is_word : (k : AKeyword) → (is_word (keyword_text k) && nat_le (length (keyword_text k)) 64) ≡ true
+pub keyword_is_word : (k : AKeyword)
+    → (is_word (keyword_text k) && nat_le (length (keyword_text k)) 64) ≡ true
 keyword_is_word key.Source = refl
 keyword_is_word key.From = refl
 keyword_is_word key.Slack = refl
@@ -145,21 +151,26 @@ sign_again sign.Star = refl
 pub same_sign : (s t : ASign) → sign_text s ≡ sign_text t → s ≡ t
 same_sign s t e = sym (sign_again s) ∙ ap sign_of e ∙ sign_again t
 
-find_passes : (test : AKeyword → Bool) (keywords : List AKeyword) (k : AKeyword) → find test keywords ≡ Some k → test k ≡ true
+find_passes : (test : AKeyword → Bool) (keywords : List AKeyword) (k : AKeyword)
+    → find test keywords ≡ Some k → test k ≡ true
 find_passes test [] k e = absurd cc
 find_passes test (l ∷ keywords) k e = elim (cases_Bool (test l)) [
   | inl good ↦
-      let found : Some l ≡ Some k = sym (cond-true (test l) (Some l) (find test keywords) good) ∙ e in
+      let found : Some l ≡ Some k = sym (cond-true (test l) (Some l) (find test keywords) good)
+      ∙ e in
       let same : l ≡ k = cc in
       subst (λ (x : AKeyword). test x ≡ true) same good
-  | inr bad ↦ find_passes test keywords k (sym (cond-false (test l) (Some l) (find test keywords) bad) ∙ e)
+  | inr bad ↦ find_passes test keywords k
+      (sym (cond-false (test l) (Some l) (find test keywords) bad) ∙ e)
 ]
 
 pub keyword_found : (w : List ℕ) (k : AKeyword) → keyword_of w ≡ Some k → w ≡ keyword_text k
 unfolding keyword_of
-keyword_found w k e = sym ((bytes_eq-Decides (keyword_text k) w).0 (find_passes (λ l. bytes_eq (keyword_text l) w) KEYWORDS k e))
+keyword_found w k e = sym ((bytes_eq-Decides (keyword_text k) w).0
+    (find_passes (λ l. bytes_eq (keyword_text l) w) KEYWORDS k e))
 
-not_found : (w : List ℕ) (found : Option AKeyword) → keyword_of w ≡ found → ¬ (IsKeyword w) → found ≡ None
+not_found : (w : List ℕ) (found : Option AKeyword) → keyword_of w ≡ found → ¬ (IsKeyword w)
+    → found ≡ None
 not_found w None e h = refl
 not_found w (Some k) e h = absurd (h (k, keyword_found w k e))
 
@@ -183,7 +194,8 @@ pub data Class : Type 0 where
   a_sign : Class
 
 abbrev pub class_of : ℕ → Class
-class_of b = cond (is_ascii_lowercase b) a_word (cond (is_ascii_digit b) a_number (cond (b == 34) a_string a_sign))
+class_of b = cond (is_ascii_lowercase b) a_word (cond (is_ascii_digit b) a_number
+    (cond (b == 34) a_string a_sign))
 
 abbrev pub named : Option AKeyword → List ℕ → TokenKind
 named (Some k) w = Keyword k
@@ -207,7 +219,8 @@ Of a_sign bs kind = (s : ASign) × (bs ≡ sign_text s) × (kind ≡ Sign s)
 
 pub first_of_word : (b : ℕ) (bs : List ℕ) → is_word (b ∷ bs) ≡ true → class_of b ≡ a_word
 first_of_word b bs h =
-    let letter : is_ascii_lowercase b ≡ true = (and_parts (is_ascii_lowercase b) (list_all is_word_byte bs) h).0 in
+    let letter : is_ascii_lowercase b ≡ true =
+    (and_parts (is_ascii_lowercase b) (list_all is_word_byte bs) h).0 in
     rw letter refl
 
 digit_is_no_letter : (b : ℕ) → is_ascii_digit b ≡ true → is_ascii_lowercase b ≡ false
@@ -218,7 +231,8 @@ first_of_number b bs h =
     let digit : is_ascii_digit b ≡ true = (and_parts _ _ (and_parts _ _ h).1).0 in
     rw (digit_is_no_letter b digit, digit) refl
 
-pub first_of_string : (content : List ℕ) (b : ℕ) (bs : List ℕ) → IsString content (b ∷ bs) → class_of b ≡ a_string
+pub first_of_string : (content : List ℕ) (b : ℕ) (bs : List ℕ) → IsString content (b ∷ bs)
+    → class_of b ≡ a_string
 first_of_string content b bs h =
     let quote : b ≡ 34 = head_of b 34 bs (h.inside ++ (34 ∷ [])) h.quoted in
     ap class_of quote
@@ -238,48 +252,77 @@ first_of_sign sign.Plus b bs e = ap class_of (head_of b 43 bs _ e)
 first_of_sign sign.Minus b bs e = ap class_of (head_of b 45 bs _ e)
 first_of_sign sign.Star b bs e = ap class_of (head_of b 42 bs _ e)
 
-as_class : (b : ℕ) (c : Class) (bs : List ℕ) (kind : TokenKind) → class_of b ≡ c → Of c bs kind → Of (class_of b) bs kind
+as_class : (b : ℕ) (c : Class) (bs : List ℕ) (kind : TokenKind) → class_of b ≡ c → Of c bs kind
+    → Of (class_of b) bs kind
 as_class b c bs kind e h = subst (λ (x : Class). Of x bs kind) (sym e) h
 
 short_kind : (w : List ℕ) → length w ≤ 64 → word_kind w ≡ named (keyword_of w) w
-short_kind w h = cond-false (nat_lt 64 (length w)) Long (named (keyword_of w) w) (le-ltb 64 (length w) h)
+short_kind w h = cond-false (nat_lt 64 (length w)) Long (named (keyword_of w) w)
+    (le-ltb 64 (length w) h)
 
-keyword_first : (k : AKeyword) (b : ℕ) (bs : List ℕ) → b ∷ bs ≡ keyword_text k → Of (class_of b) (b ∷ bs) (Keyword k)
+keyword_first : (k : AKeyword) (b : ℕ) (bs : List ℕ) → b ∷ bs ≡ keyword_text k
+    → Of (class_of b) (b ∷ bs) (Keyword k)
 keyword_first k b bs e =
-    let good = and_parts (is_word (keyword_text k)) (nat_le (length (keyword_text k)) 64) (keyword_is_word k) in
+    let good = and_parts (is_word (keyword_text k)) (nat_le (length (keyword_text k)) 64)
+    (keyword_is_word k) in
     let word : is_word (b ∷ bs) ≡ true = ap is_word e ∙ good.0 in
-    let short : length (b ∷ bs) ≤ 64 = subst (λ (x : List ℕ). length x ≤ 64) (sym e) (leb-true (length (keyword_text k)) 64 good.1) in
+    let short : length (b ∷ bs) ≤ 64 = subst (λ (x : List ℕ). length x ≤ 64) (sym e)
+    (leb-true (length (keyword_text k)) 64 good.1) in
     let found : keyword_of (b ∷ bs) ≡ Some k = ap keyword_of e ∙ keyword_again k in
-    let kind : Keyword k ≡ word_kind (b ∷ bs) = sym (short_kind (b ∷ bs) short ∙ ap (λ (o : Option AKeyword). named o (b ∷ bs)) found) in
+    let kind : Keyword k ≡ word_kind (b ∷ bs) = sym (short_kind (b ∷ bs) short
+    ∙ ap (λ (o : Option AKeyword). named o (b ∷ bs)) found) in
     as_class b a_word (b ∷ bs) (Keyword k) (first_of_word b bs word) (word, kind)
 
-name_first : (w : List ℕ) (b : ℕ) (bs : List ℕ) → b ∷ bs ≡ w → IsShortWord w → ¬ (IsKeyword w) → Of (class_of b) (b ∷ bs) (Name w)
+name_first : (w : List ℕ) (b : ℕ) (bs : List ℕ) → b ∷ bs ≡ w → IsShortWord w → ¬ (IsKeyword w)
+    → Of (class_of b) (b ∷ bs) (Name w)
 name_first w b bs e short missing =
     let word : is_word (b ∷ bs) ≡ true = ap is_word e ∙ short.0 in
     let fits : length (b ∷ bs) ≤ 64 = subst (λ (x : List ℕ). length x ≤ 64) (sym e) short.1 in
-    let kind : Name w ≡ word_kind (b ∷ bs) = sym (short_kind (b ∷ bs) fits ∙ ap (λ (x : List ℕ). named (keyword_of x) x) e ∙ ap (λ (o : Option AKeyword). named o w) (keyword_missing w missing)) in
+    let kind : Name w ≡ word_kind (b ∷ bs) = sym (short_kind (b ∷ bs) fits
+    ∙ ap (λ (x : List ℕ). named (keyword_of x) x) e ∙ ap (λ (o : Option AKeyword). named o w)
+    (keyword_missing w missing)) in
     as_class b a_word (b ∷ bs) (Name w) (first_of_word b bs word) (word, kind)
 
-long_first : (b : ℕ) (bs : List ℕ) → IsLongWord (b ∷ bs) ⊎ IsLongString (b ∷ bs) → Of (class_of b) (b ∷ bs) Long
-long_first b bs (inl h) = as_class b a_word (b ∷ bs) Long (first_of_word b bs h.0) (h.0, sym (cond-true (nat_lt 64 (length (b ∷ bs))) Long (named (keyword_of (b ∷ bs)) (b ∷ bs)) (lt-ltb 64 (length (b ∷ bs)) h.1)))
-long_first b bs (inr h) = as_class b a_string (b ∷ bs) Long (first_of_string h.0 b bs h.1) (h.0, h.1, sym (cond-true (nat_lt 65535 (length h.0)) Long (Text h.0) (lt-ltb 65535 (length h.0) h.2)))
+long_first : (b : ℕ) (bs : List ℕ) → IsLongWord (b ∷ bs) ⊎ IsLongString (b ∷ bs)
+    → Of (class_of b) (b ∷ bs) Long
+long_first b bs (inl h) = as_class b a_word (b ∷ bs) Long (first_of_word b bs h.0) (
+  h.0,
+  sym (cond-true (nat_lt 64 (length (b ∷ bs))) Long (named (keyword_of (b ∷ bs)) (b ∷ bs))
+      (lt-ltb 64 (length (b ∷ bs)) h.1)),
+)
+long_first b bs (inr h) = as_class b a_string (b ∷ bs) Long (first_of_string h.0 b bs h.1) (
+  h.0,
+  h.1,
+  sym (cond-true (nat_lt 65535 (length h.0)) Long (Text h.0)
+      (lt-ltb 65535 (length h.0) h.2)),
+)
 
 -- what spells a token is one of the class of its first byte
-pub by_first : (kind : TokenKind) (b : ℕ) (bs : List ℕ) → Spells kind (b ∷ bs) → Of (class_of b) (b ∷ bs) kind
+pub by_first : (kind : TokenKind) (b : ℕ) (bs : List ℕ) → Spells kind (b ∷ bs)
+    → Of (class_of b) (b ∷ bs) kind
 by_first (Sign s) b bs h = as_class b a_sign (b ∷ bs) (Sign s) (first_of_sign s b bs h) (s, h, refl)
 by_first (Keyword k) b bs h = keyword_first k b bs h
 by_first (Name w) b bs h = name_first w b bs h.0 h.1 h.2
-by_first (Number n) b bs h = as_class b a_number (b ∷ bs) (Number n) (first_of_number b bs h.0) (h.0, ap Number h.1)
-by_first (Text content) b bs h = as_class b a_string (b ∷ bs) (Text content) (first_of_string content b bs h.0) (content, h.0, sym (cond-false (nat_lt 65535 (length content)) Long (Text content) (le-ltb 65535 (length content) h.1)))
+by_first (Number n) b bs h = as_class b a_number (b ∷ bs) (Number n) (first_of_number b bs h.0)
+    (h.0, ap Number h.1)
+by_first (Text content) b bs h = as_class b a_string (b ∷ bs) (Text content)
+    (first_of_string content b bs h.0) (
+      content,
+      h.0,
+      sym (cond-false (nat_lt 65535 (length content)) Long (Text content)
+          (le-ltb 65535 (length content) h.1)),
+    )
 by_first Long b bs h = long_first b bs h
 by_first (Cut refusal) b bs h = absurd h
 by_first Byte b bs h = absurd h
 by_first End b bs h = absurd h
 
-pub same_of : (c : Class) (bs : List ℕ) (kind other : TokenKind) → Of c bs kind → Of c bs other → kind ≡ other
+pub same_of : (c : Class) (bs : List ℕ) (kind other : TokenKind) → Of c bs kind → Of c bs other
+    → kind ≡ other
 same_of a_word bs kind other h k = h.1 ∙ sym k.1
 same_of a_number bs kind other h k = h.1 ∙ sym k.1
-same_of a_string bs kind other h k = h.2 ∙ ap string_kind (same_string h.0 k.0 bs bs [] [] h.1 k.1 refl).0 ∙ sym k.2
+same_of a_string bs kind other h k = h.2
+    ∙ ap string_kind (same_string h.0 k.0 bs bs [] [] h.1 k.1 refl).0 ∙ sym k.2
 same_of a_sign bs kind other h k = h.2 ∙ ap Sign (same_sign h.0 k.0 (sym h.1 ∙ k.1)) ∙ sym k.2
 
 no_sign_empty : (s : ASign) → [] ≡ sign_text s → ⊥
@@ -299,7 +342,8 @@ no_sign_empty sign.Star e = absurd cc
 
 no_keyword_empty : (k : AKeyword) → [] ≡ keyword_text k → ⊥
 no_keyword_empty k e =
-    let good = and_parts (is_word (keyword_text k)) (nat_le (length (keyword_text k)) 64) (keyword_is_word k) in
+    let good = and_parts (is_word (keyword_text k)) (nat_le (length (keyword_text k)) 64)
+    (keyword_is_word k) in
     true≢false (sym good.0 ∙ ap is_word (sym e))
 
 -- no token is spelled by no bytes
@@ -318,6 +362,8 @@ never_empty Byte h = h
 never_empty End h = h
 
 -- the same bytes spell one kind alone
-pub same_kind : (kind other : TokenKind) (bs : List ℕ) → Spells kind bs → Spells other bs → kind ≡ other
+pub same_kind : (kind other : TokenKind) (bs : List ℕ) → Spells kind bs → Spells other bs
+    → kind ≡ other
 same_kind kind other [] h k = absurd (never_empty kind h)
-same_kind kind other (b ∷ bs) h k = same_of (class_of b) (b ∷ bs) kind other (by_first kind b bs h) (by_first other b bs k)
+same_kind kind other (b ∷ bs) h k = same_of (class_of b) (b ∷ bs) kind other (by_first kind b bs h)
+    (by_first other b bs k)

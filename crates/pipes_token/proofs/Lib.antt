@@ -2,7 +2,7 @@ pub mod Runs
 pub mod Characters
 pub mod Gaps
 pub mod Strings
-pub mod Fronts
+pub mod Prefixes
 pub mod ByFirst
 pub mod OnlyTokens
 pub mod Longest

@@ -1,7 +1,14 @@
 -- The keywords, and how each is spelled.
 use Rattle.std.specs.Prelude.{ℕ, List, codes}
 use Rattle.pipes_token.specs.declared.keyword.Keyword.{Keyword}
-use Rattle.pipes_token.specs.declared.keyword.Keyword.TheVariants.{Source, From, Slack, Window, Slide, Time, Count, Int, Text, Flag, Plan, Filter, Map, Union, Join, Distinct, Group, Minus, Sum, Min, Max, Avg, True, False, And, Or, Not, Step, Back, At, Top, With, Feed, Rest, Await, Migrate, Drain}
+use Rattle.pipes_token.specs.declared.keyword.Keyword.TheVariants.{Source, From, Slack, Window}
+use Rattle.pipes_token.specs.declared.keyword.Keyword.TheVariants.{Slide, Time, Count, Int, Text}
+use Rattle.pipes_token.specs.declared.keyword.Keyword.TheVariants.{Flag, Plan, Filter, Map, Union}
+use Rattle.pipes_token.specs.declared.keyword.Keyword.TheVariants.{Join, Distinct, Group, Minus}
+use Rattle.pipes_token.specs.declared.keyword.Keyword.TheVariants.{Sum, Min, Max, Avg, True, False}
+use Rattle.pipes_token.specs.declared.keyword.Keyword.TheVariants.{And, Or, Not, Step, Back, At}
+use Rattle.pipes_token.specs.declared.keyword.Keyword.TheVariants.{Top, With, Feed, Rest, Await}
+use Rattle.pipes_token.specs.declared.keyword.Keyword.TheVariants.{Migrate, Drain}
 
 abbrev pub keyword_text : Keyword → List ℕ
 keyword_text Source = codes "source"

@@ -1,14 +1,18 @@
 -- How tokens are spelled.
-use Rattle.std.specs.Prelude.{◌≡◌, ℕ, ◌-◌, ◌^◌, ◌<◌, ◌≤◌, min, Bool, true, false, ◌||◌, ◌&&◌, ◌==◌, List, [], ◌∷◌, ◌++◌, length, codes, ◌⊎◌}
+use Rattle.std.specs.Prelude.{◌≡◌, ℕ, ◌-◌, ◌^◌, ◌<◌, ◌≤◌, min, Bool, true, false, ◌||◌, ◌&&◌, ◌==◌}
+use Rattle.std.specs.Prelude.{List, [], ◌∷◌, ◌++◌, length, codes, ◌⊎◌}
 use Rattle.std.specs.Char.{is_ascii_lowercase, is_ascii_digit}
 use Rattle.std.specs.List.{list_all}
 use Rattle.std.specs.Str.Parse.{digits_value}
 use Rattle.pipes_tuple.specs.Reading.{is_numeral}
 use Rattle.pipes_token.specs.declared.keyword.Keyword.{Keyword as AKeyword}
 use Rattle.pipes_token.specs.declared.token.Sign.{Sign as ASign}
-use Rattle.pipes_token.specs.declared.token.Sign.TheVariants.{Open, Close, OpenList, CloseList, Comma, Dollar, Point, Equal, Less, AtMost, Plus, Minus, Star}
+use Rattle.pipes_token.specs.declared.token.Sign.TheVariants.{Open, Close, OpenList, CloseList}
+use Rattle.pipes_token.specs.declared.token.Sign.TheVariants.{Comma, Dollar, Point, Equal, Less}
+use Rattle.pipes_token.specs.declared.token.Sign.TheVariants.{AtMost, Plus, Minus, Star}
 use Rattle.pipes_token.specs.declared.token.TokenKind.{TokenKind}
-use Rattle.pipes_token.specs.declared.token.TokenKind.TheVariants.{Sign, Keyword, Name, Number, Text, Long, Cut, Byte, End}
+use Rattle.pipes_token.specs.declared.token.TokenKind.TheVariants.{Sign, Keyword, Name, Number}
+use Rattle.pipes_token.specs.declared.token.TokenKind.TheVariants.{Text, Long, Cut, Byte, End}
 use Rattle.pipes_token.specs.Keywords.{keyword_text}
 use Rattle.pipes_token.specs.Strings.{IsString}
 
@@ -63,9 +67,10 @@ Spells (Cut refusal) bs = ⊥
 Spells Byte bs = ⊥
 Spells End bs = ⊥
 
--- No longer front of the text spells a token of any kind.
+-- No longer prefix of the text spells a token of any kind.
 abbrev pub IsLongest : List ℕ → List ℕ → Type 0
-IsLongest spelling rest = (kind : TokenKind) (more left : List ℕ) → rest ≡ more ++ left → Spells kind (spelling ++ more) → more ≡ []
+IsLongest spelling rest = (kind : TokenKind) (more left : List ℕ) → rest ≡ more ++ left
+    → Spells kind (spelling ++ more) → more ≡ []
 
 -- no token is spelled with this byte first
 abbrev pub BeginsNone : ℕ → Type 0

@@ -11,14 +11,17 @@ IsApart [] = Unit {0}
 IsApart (b ∷ bs) = is_word_byte b ≡ false
 
 -- The bytes that are left of a text of n bytes have tokens of these kinds, and then these tokens.
-pub record BeginsWith (n : ℕ) (kinds : List TokenKind) (bs : List ℕ) (tokens : List Token) : Type 0 where
-  pub front : List Token
-  pub are : map (λ (t : Token). t.kind) front ≡ kinds
-  pub whole : Tokens n bs (front ++ tokens)
+pub record BeginsWith (n : ℕ) (kinds : List TokenKind) (bs : List ℕ) (tokens : List Token) : Type 0
+  where
+    pub prefix : List Token
+    pub are : map (λ (t : Token). t.kind) prefix ≡ kinds
+    pub whole : Tokens n bs (prefix ++ tokens)
 
 -- Wherever the bytes stand in a text, before what is so, they are tokens of these kinds.
-pub record WritesBefore (P : List ℕ → Type 0) (kinds : List TokenKind) (bytes : List ℕ) : Type 0 where
-  pub begins : (n : ℕ) (more : List ℕ) (tokens : List Token) → length (bytes ++ more) ≤ n → P more → Tokens n more tokens → BeginsWith n kinds (bytes ++ more) tokens
+pub record WritesBefore (P : List ℕ → Type 0) (kinds : List TokenKind) (bytes : List ℕ) : Type 0
+  where
+    pub begins : (n : ℕ) (more : List ℕ) (tokens : List Token) → length (bytes ++ more) ≤ n → P more
+        → Tokens n more tokens → BeginsWith n kinds (bytes ++ more) tokens
 
 -- before what is apart
 abbrev pub Writes : List TokenKind → List ℕ → Type 0

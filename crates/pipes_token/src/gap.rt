@@ -5,7 +5,7 @@ ghost use Rattle.pipes_token.specs.Gaps.{is_separator, is_within_line, IsPastGap
 
 use crate::bytes::first;
 
-// What stands behind separators and comments.
+// What stands after separators and comments.
 pub(crate) fn past_gap(bytes: &[u8]) -> &[u8]
     ensures past { IsPastGap bytes.now result.now }
     ensures bound { length result.now ≤ length bytes.now }
@@ -13,11 +13,11 @@ pub(crate) fn past_gap(bytes: &[u8]) -> &[u8]
     let mut rest = bytes;
     'gap: loop {
         match first(rest) {
-            Some((byte, behind)) => {
+            Some((byte, later)) => {
                 if is_separator_byte(byte) {
-                    rest = behind;
+                    rest = later;
                 } else if byte == b'#' {
-                    rest = line_end(behind);
+                    rest = line_end(later);
                 } else {
                     return rest;
                 }

@@ -2,22 +2,23 @@
 ghost use Rattle.std.specs.Prelude.{◌≡◌, ◌≤◌, ◌+◌, length, take, count_by, ◌==◌};
 ghost use Rattle.std.specs.List.{suffix_len};
 ghost use Rattle.pipes_token.specs.Gaps.{is_within_line};
-ghost use Rattle.pipes_token.specs.Places.{told};
+ghost use Rattle.pipes_token.specs.Places.{known};
 
 use crate::{Refusal, TextRefusal};
 
 /// The most bytes that a text has.
 pub const LONGEST_FILE: usize = 1_048_576;
 
-/// The refusal with its place told by line and column. Each place from the end on is that behind the last byte.
+/// The refusal with its place known by line and column. Each place from the end on is that after
+/// the last byte.
 pub fn tell(bytes: &[u8], refusal: Refusal) -> TextRefusal
     requires { length bytes.now ≤ LONGEST_FILE }
-    ensures { result ≡ told bytes.now refusal }
+    ensures { result ≡ known bytes.now refusal }
 {
-    let front = &bytes[..refusal.at.min(bytes.len())];
+    let prefix = &bytes[..refusal.at.min(bytes.len())];
     TextRefusal {
-        line: line_feeds(front) as u32 + 1,
-        column: last_line_len(front) as u32 + 1,
+        line: line_feeds(prefix) as u32 + 1,
+        column: last_line_len(prefix) as u32 + 1,
         why: refusal.why,
     }
 }
@@ -30,7 +31,7 @@ fn line_feeds(bytes: &[u8]) -> usize
     bytes.iter().filter(|byte| **byte == b'\n').count()
 }
 
-// The bytes behind the last line feed.
+// The bytes after the last line feed.
 fn last_line_len(bytes: &[u8]) -> usize
     ensures value { result ≡ suffix_len is_within_line bytes.now }
     ensures bound { result ≤ length bytes.now }

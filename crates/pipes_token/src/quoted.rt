@@ -1,5 +1,6 @@
 // The inside of strings.
-ghost use Rattle.std.specs.Prelude.{◌≡◌, ◌≢◌, ◌≤◌, ◌<◌, ◌++◌, ◌∷◌, [], List, ℕ, length, take, string_bytes, IfOk, IfSome, IfNone, false};
+ghost use Rattle.std.specs.Prelude.{◌≡◌, ◌≢◌, ◌≤◌, ◌<◌, ◌++◌, ◌∷◌, [], List, ℕ, length, take};
+ghost use Rattle.std.specs.Prelude.{string_bytes, IfOk, IfSome, IfNone, false};
 ghost use Rattle.std.specs.Bool.{MatchBool};
 ghost use Rattle.std.specs.Char.{IsScalar, encode_utf8, is_ascii};
 ghost use Rattle.std.specs.Str.{IsUtf8, StartsWithNoChar};
@@ -19,51 +20,53 @@ pub(crate) fn inside(alloc: Global, bytes: &[u8]) -> Result<(String, &[u8]), Mem
     let mut rest = bytes;
     'characters: loop {
         match character(rest) {
-            Some((character, behind)) => {
+            Some((character, later)) => {
                 content.push(character)?;
-                rest = behind;
+                rest = later;
             }
             None => return Ok((content, rest)),
         }
     }
 }
 
-// The character that the bytes begin with inside a string, and what is left behind it.
+// The character that the bytes begin with inside a string, and what is left after it.
 fn character(bytes: &[u8]) -> Option<(char, &[u8])>
     ensures begins { IfSome result (λ x. BeginsChar bytes.now x.0 x.1.now) }
     ensures none { IfNone result (HasNoChar bytes.now) }
     ensures shorter { IfSome result (λ x. length x.1.now < length bytes.now) }
 {
-    let Some((byte, behind)) = first(bytes) else {
+    let Some((byte, later)) = first(bytes) else {
         return None;
     };
     if is_end(byte) {
         return None;
     }
     if byte == b'\\' {
-        return escape(bytes, behind);
+        return escape(bytes, later);
     }
     if byte < 128 {
-        return Some((char::from(byte), behind));
+        return Some((char::from(byte), later));
     }
     wide_character(bytes)
 }
 
-// Whether no character begins with the byte inside a string: a quote ends it, and a line feed can't stand there.
+// Whether no character begins with the byte inside a string: a quote ends it, and a line feed can't
+// stand there.
 fn is_end(byte: u8) -> bool
-    ensures { MatchBool result ((byte < 128) × (is_plain byte ≡ false) × (byte ≢ 92)) ((byte ≢ 34) × (byte ≢ 10)) }
+    ensures { MatchBool result ((byte < 128) × (is_plain byte ≡ false) × (byte ≢ 92)) ((byte ≢ 34)
+        × (byte ≢ 10)) }
 {
     byte == b'"' || byte == b'\n'
 }
 
-// The character that a backslash and the byte behind it stand for.
-fn escape<'a>(bytes: &'a [u8], behind: &'a [u8]) -> Option<(char, &'a [u8])>
-    requires { bytes.now ≡ 92 ∷ behind.now }
+// The character that a backslash and the byte after it stand for.
+fn escape<'a>(bytes: &'a [u8], later: &'a [u8]) -> Option<(char, &'a [u8])>
+    requires { bytes.now ≡ 92 ∷ later.now }
     ensures begins { IfSome result (λ x. BeginsChar bytes.now x.0 x.1.now) }
     ensures none { IfNone result (HasNoChar bytes.now) }
     ensures shorter { IfSome result (λ x. length x.1.now < length bytes.now) }
 {
-    let Some((code, rest)) = first(behind) else {
+    let Some((code, rest)) = first(later) else {
         return None;
     };
     match escaped(code) {
@@ -85,24 +88,25 @@ fn escaped(code: u8) -> Option<char>
     }
 }
 
-// The character whose UTF-8 begins the bytes, and what is left behind it.
+// The character whose UTF-8 begins the bytes, and what is left after it.
 fn wide_character(bytes: &[u8]) -> Option<(char, &[u8])>
     requires { (b : ℕ) (bs : List ℕ) → bytes.now ≡ b ∷ bs → 128 ≤ b }
     ensures begins { IfSome result (λ x. BeginsChar bytes.now x.0 x.1.now) }
     ensures none { IfNone result (HasNoChar bytes.now) }
     ensures shorter { IfSome result (λ x. length x.1.now < length bytes.now) }
 {
-    let front = valid_front(&bytes[..bytes.len().min(4)]);
-    match front.chars().next() {
+    let prefix = valid_prefix(&bytes[..bytes.len().min(4)]);
+    match prefix.chars().next() {
         Some(character) => Some((character, bytes.split_at(character.len_utf8()).1)),
         None => None,
     }
 }
 
-// The longest front of the bytes that is a text.
-fn valid_front(bytes: &[u8]) -> &str
-    ensures front { result.now ≡ take (length result.now) bytes.now }
-    ensures longest { (n : ℕ) → length result.now < n → n ≤ length bytes.now → ¬ (IsUtf8 (take n bytes.now)) }
+// The longest prefix of the bytes that is a text.
+fn valid_prefix(bytes: &[u8]) -> &str
+    ensures prefix { result.now ≡ take (length result.now) bytes.now }
+    ensures longest { (n : ℕ) → length result.now < n → n ≤ length bytes.now
+        → ¬ (IsUtf8 (take n bytes.now)) }
     ensures bound { length result.now ≤ length bytes.now }
 {
     match str::from_utf8(bytes) {

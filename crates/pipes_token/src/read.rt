@@ -1,5 +1,6 @@
-// One token at the front of a text.
-ghost use Rattle.std.specs.Prelude.{◌≡◌, ◌≤◌, ◌<◌, ◌-◌, ◌^◌, ◌∷◌, [], List, ℕ, length, min, drop, IfOk, IfSome, IfNone, MatchOption, true, false};
+// One token at the start of a text.
+ghost use Rattle.std.specs.Prelude.{◌≡◌, ◌≤◌, ◌<◌, ◌-◌, ◌^◌, ◌∷◌, [], List, ℕ, length, min, drop};
+ghost use Rattle.std.specs.Prelude.{IfOk, IfSome, IfNone, MatchOption, true, false};
 ghost use Rattle.std.specs.Char.{is_ascii_lowercase, is_ascii_digit};
 ghost use Rattle.std.specs.List.{list_all, prefix_len};
 ghost use Rattle.std.specs.Str.Parse.{digits_value};
@@ -18,24 +19,24 @@ use pipes_tuple::{Text, TextFault};
 use std::alloc::Global;
 use std::str;
 
-// What stands here in a text of `total` bytes, and what is left behind it.
+// What stands here in a text of `total` bytes, and what is left after it.
 pub(crate) fn read(alloc: Global, total: usize, here: &[u8]) -> Result<(TokenKind, &[u8]), Memory>
     requires { length here.now ≤ total }
     ensures { IfOk result (λ x. Reads total here.now x.0 x.1.now) }
 {
-    let Some((byte, behind)) = first(here) else {
+    let Some((byte, later)) = first(here) else {
         return Ok((TokenKind::End, here));
     };
     if byte == b'"' {
-        return string(alloc, total, here, behind);
+        return string(alloc, total, here, later);
     }
     if byte.is_ascii_lowercase() {
-        return word(alloc, here, byte, behind);
+        return word(alloc, here, byte, later);
     }
     if byte.is_ascii_digit() {
-        return Ok(number(here, byte, behind));
+        return Ok(number(here, byte, later));
     }
-    Ok(sign(here, byte, behind))
+    Ok(sign(here, byte, later))
 }
 
 // The word that begins here with the letter `byte`.
@@ -43,9 +44,9 @@ fn word<'a>(
     alloc: Global,
     here: &'a [u8],
     byte: u8,
-    behind: &'a [u8],
+    later: &'a [u8],
 ) -> Result<(TokenKind, &'a [u8]), Memory>
-    requires parts { here.now ≡ byte ∷ behind.now }
+    requires parts { here.now ≡ byte ∷ later.now }
     requires letter { is_ascii_lowercase byte ≡ true }
     ensures { IfOk result (λ x. Begins x.0 here.now x.1.now) }
 {
@@ -53,7 +54,7 @@ fn word<'a>(
     Ok((word_kind(alloc, word)?, rest))
 }
 
-// How many bytes of words stand at the front.
+// How many bytes of words stand at the start.
 fn word_len(bytes: &[u8]) -> usize
     ensures value { result ≡ prefix_len is_word_byte bytes.now }
     ensures bound { result ≤ length bytes.now }
@@ -107,8 +108,8 @@ fn short_text(alloc: Global, text: &str) -> Result<Text, Memory>
 }
 
 // The number that begins here with the digit `byte`.
-fn number<'a>(here: &'a [u8], byte: u8, behind: &'a [u8]) -> (TokenKind, &'a [u8])
-    requires parts { here.now ≡ byte ∷ behind.now }
+fn number<'a>(here: &'a [u8], byte: u8, later: &'a [u8]) -> (TokenKind, &'a [u8])
+    requires parts { here.now ≡ byte ∷ later.now }
     requires digit { is_ascii_digit byte ≡ true }
     ensures { Begins result.0 here.now result.1.now }
 {
@@ -116,7 +117,7 @@ fn number<'a>(here: &'a [u8], byte: u8, behind: &'a [u8]) -> (TokenKind, &'a [u8
     (TokenKind::Number(value_of(digits)), rest)
 }
 
-// How many digits stand at the front.
+// How many digits stand at the start.
 fn digits_len(bytes: &[u8]) -> usize
     ensures value { result ≡ prefix_len is_ascii_digit bytes.now }
     ensures bound { result ≤ length bytes.now }
@@ -146,13 +147,13 @@ fn string<'a>(
     alloc: Global,
     total: usize,
     here: &'a [u8],
-    behind: &'a [u8],
+    later: &'a [u8],
 ) -> Result<(TokenKind, &'a [u8]), Memory>
-    requires quote { here.now ≡ 34 ∷ behind.now }
+    requires quote { here.now ≡ 34 ∷ later.now }
     requires place { length here.now ≤ total }
     ensures { IfOk result (λ x. Reads total here.now x.0 x.1.now) }
 {
-    let (content, left) = inside(alloc, behind)?;
+    let (content, left) = inside(alloc, later)?;
     match first(left) {
         Some((byte, rest)) => {
             if byte == b'"' {
@@ -184,37 +185,38 @@ fn string_kind(alloc: Global, content: &str) -> Result<TokenKind, Memory>
 }
 
 // The sign that begins here with the byte, or that no token begins with it.
-fn sign<'a>(here: &'a [u8], byte: u8, behind: &'a [u8]) -> (TokenKind, &'a [u8])
-    requires parts { here.now ≡ byte ∷ behind.now }
+fn sign<'a>(here: &'a [u8], byte: u8, later: &'a [u8]) -> (TokenKind, &'a [u8])
+    requires parts { here.now ≡ byte ∷ later.now }
     requires no_letter { is_ascii_lowercase byte ≡ false }
     requires no_digit { is_ascii_digit byte ≡ false }
     requires no_quote { byte ≡ 34 → ⊥ }
     ensures { (n : ℕ) → Reads n here.now result.0 result.1.now }
 {
     if byte == b'<' {
-        return less(here, behind);
+        return less(here, later);
     }
     match sign_of(byte) {
-        Some(sign) => (TokenKind::Sign(sign), behind),
+        Some(sign) => (TokenKind::Sign(sign), later),
         None => (TokenKind::Byte, here),
     }
 }
 
 // The sign that begins here with `<`.
-fn less<'a>(here: &'a [u8], behind: &'a [u8]) -> (TokenKind, &'a [u8])
-    requires { here.now ≡ 60 ∷ behind.now }
+fn less<'a>(here: &'a [u8], later: &'a [u8]) -> (TokenKind, &'a [u8])
+    requires { here.now ≡ 60 ∷ later.now }
     ensures { Begins result.0 here.now result.1.now }
 {
-    match first(behind) {
+    match first(later) {
         Some((b'=', rest)) => (TokenKind::Sign(Sign::AtMost), rest),
-        _ => (TokenKind::Sign(Sign::Less), behind),
+        _ => (TokenKind::Sign(Sign::Less), later),
     }
 }
 
 // The sign that this byte alone spells, where it isn't `<`.
 fn sign_of(byte: u8) -> Option<Sign>
     ensures some { IfSome result (λ sign. byte ∷ [] ≡ sign_text sign) }
-    ensures none { IfNone result ((sign : ASign) (bs : List ℕ) → byte ∷ bs ≡ sign_text sign → byte ≡ 60) }
+    ensures none { IfNone result ((sign : ASign) (bs : List ℕ) → byte ∷ bs ≡ sign_text sign
+        → byte ≡ 60) }
 {
     match byte {
         b'(' => Some(Sign::Open),

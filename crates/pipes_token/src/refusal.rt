@@ -37,7 +37,7 @@ pub struct Refusal {
     pub why: TextWhy,
 }
 
-/// A refusal with its place told by line and column.
+/// A refusal with its place known by line and column.
 #[derive(Clone, Copy, Debug, PartialEq, Eq)]
 pub struct TextRefusal {
     /// The line, from 1. Lines end at line feeds.
@@ -60,7 +60,10 @@ pub enum ReadFault {
 }
 
 impl From<Memory> for ReadFault {
-    ghost use Rattle.pipes_token.specs.declared.refusal.ReadFault.TheVariants.{Memory as WantOfMemory};
+    ghost use Rattle.pipes_token.specs.declared.refusal.ReadFault.TheVariants.{
+      Memory as
+          WantOfMemory,
+    };
     ghost use Rattle.std.specs.Prelude.{◌≡◌};
 
     ghost from_gives = { λ _ fault. fault ≡ WantOfMemory };
@@ -71,7 +74,10 @@ impl From<Memory> for ReadFault {
 }
 
 impl From<AllocError> for ReadFault {
-    ghost use Rattle.pipes_token.specs.declared.refusal.ReadFault.TheVariants.{Memory as WantOfMemory};
+    ghost use Rattle.pipes_token.specs.declared.refusal.ReadFault.TheVariants.{
+      Memory as
+          WantOfMemory,
+    };
     ghost use Rattle.std.specs.Prelude.{◌≡◌};
 
     ghost from_gives = { λ _ fault. fault ≡ WantOfMemory };
@@ -82,7 +88,10 @@ impl From<AllocError> for ReadFault {
 }
 
 impl<T: Drop> From<AllocFailed<T>> for ReadFault {
-    ghost use Rattle.pipes_token.specs.declared.refusal.ReadFault.TheVariants.{Memory as WantOfMemory};
+    ghost use Rattle.pipes_token.specs.declared.refusal.ReadFault.TheVariants.{
+      Memory as
+          WantOfMemory,
+    };
     ghost use Rattle.std.specs.Prelude.{◌≡◌};
 
     ghost from_gives = { λ _ fault. fault ≡ WantOfMemory };

@@ -49,7 +49,8 @@ pub enum TokenKind {
     Number(u64),
     /// The content of a string.
     Text(Text),
-    /// A word of more than [`LONGEST_WORD`] bytes, or a string whose content has more bytes than a [`Text`].
+    /// A word of more than [`LONGEST_WORD`] bytes, or a string whose content has more bytes than a
+    /// [`Text`].
     Long,
     /// A string that is refused within: at a byte that it can't have, or at the end of the text.
     Cut(Refusal),

@@ -1,13 +1,15 @@
 -- Lists of tuples are equal as bags exactly where they are equal up to order; what keeps bags
 -- equal.
-use Rattle.std.proofs.Common.{◌≡◌, ℕ, ◌+◌, ◌<◌, Bool, true, false, cond, List, [], ◌∷◌, ◌++◌, map, refl, sym, ◌∙◌, subst, arith}
+use Rattle.std.proofs.Common.{◌≡◌, ℕ, ◌+◌, ◌<◌, Bool, true, false, cond, List, [], ◌∷◌, ◌++◌, map}
+use Rattle.std.proofs.Common.{refl, sym, ◌∙◌, subst, arith}
 use Rattle.std.specs.List.{filter, flat_map}
 use Rattle.std.proofs.lemmas.List.Sums.{sum_by-cons}
 use Rattle.pipes_tuple.specs.declared.value.Value.{Value}
 use Rattle.pipes_tuple.specs.Equal.{tuple_eq}
 use Rattle.pipes_tuple.specs.Bag.{count, SameBag}
 use Rattle.pipes_tuple.proofs.Equality.{tuple_eq-Decides}
-use Rattle.pipes_tuple.proofs.Perm.{Perm, none, keep, swap, then, Perm-refl, Perm-sym, Perm-append, Perm-filter, Perm-map, Perm-flat_map, Perm-each, count_by-Perm}
+use Rattle.pipes_tuple.proofs.Perm.{Perm, none, keep, swap, then, Perm-refl, Perm-sym, Perm-append}
+use Rattle.pipes_tuple.proofs.Perm.{Perm-filter, Perm-map, Perm-flat_map, Perm-each, count_by-Perm}
 
 abbrev Row : Type 0
 Row = List Value
@@ -38,7 +40,7 @@ counted : (b : Bool) (n : ℕ) → 0 < cond b 1 0 + n → b ≡ false → 0 < n
 counted true n h e = cc
 counted false n h e = omega arith
 
--- a tuple that occurs can be moved to the front
+-- a tuple that occurs can be moved to the prefix
 pub Perm-without : (tuple : Row) (rows : List Row) → 0 < count tuple rows
     → Perm rows (tuple ∷ without tuple rows)
 Perm-without tuple [] h = absurd (omega arith)

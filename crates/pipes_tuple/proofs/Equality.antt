@@ -1,5 +1,5 @@
 -- The tests of equality decide `≡`.
-use Rattle.std.proofs.Common.{◌≡◌, Bool, true, false, List, refl, ap, Decides}
+use Rattle.std.proofs.Common.{◌≡◌, true, false, List, refl, ap, Decides}
 use Rattle.std.proofs.lemmas.Bool.Decides.{Decides-int_eq, Decides-eqb}
 use Rattle.std.proofs.lemmas.Slice.Eq.{slice_eq-Decides}
 use Rattle.pipes_tuple.specs.declared.value.Kind.{Kind}

@@ -1,5 +1,7 @@
 -- Texts between quotes: the first byte that is escaped, what is before it and what is after it.
-use Rattle.std.proofs.Common.{◌≡◌, ℕ, suc, ◌+◌, List, [], ◌∷◌, ◌++◌, take, drop, Option, Some, None, Bool, true, false, cond, get_or, refl, sym, ◌∙◌, ap, subst, arith, append_assoc, ◌||◌, ◌==◌}
+use Rattle.std.proofs.Common.{◌≡◌, ℕ, suc, ◌+◌, List, [], ◌∷◌, ◌++◌, take, drop, Some, None}
+use Rattle.std.proofs.Common.{Bool, true, false, cond, get_or, refl, sym, ◌∙◌, ap, arith}
+use Rattle.std.proofs.Common.{append_assoc, ◌||◌, ◌==◌}
 use Rattle.std.specs.List.{position_from}
 use Rattle.pipes_tuple.specs.Texts.{is_escaped, escaped_byte, escaped}
 
@@ -60,6 +62,8 @@ escaped-around bs i h =
     let e : r.0 ≡ i = omega (arith, r.1) in (
       ap (λ (n : ℕ). is_escaped (get_or bs n 0)) (sym e) ∙ r.2,
       r.3
-          ∙ ap (λ (n : ℕ). take n bs ++ (escaped_byte (get_or bs n 0) ++ escaped (drop (n + 1) bs))) e
-          ∙ sym (append_assoc (take i bs) (escaped_byte (get_or bs i 0)) (escaped (drop (i + 1) bs))),
+          ∙ ap (λ (n : ℕ). take n bs ++ (escaped_byte (get_or bs n 0) ++ escaped (drop (n + 1) bs)))
+          e
+          ∙ sym (append_assoc (take i bs) (escaped_byte (get_or bs i 0))
+          (escaped (drop (i + 1) bs))),
     )

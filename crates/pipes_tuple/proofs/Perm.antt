@@ -1,5 +1,6 @@
 -- Lists that are equal up to the order of their items.
-use Rattle.std.proofs.Common.{◌≡◌, ℕ, ◌+◌, Bool, true, false, cond, List, [], ◌∷◌, ◌++◌, map, refl, sym, ap, ◌∙◌, subst, arith, append_assoc, append-nil, count_by}
+use Rattle.std.proofs.Common.{◌≡◌, ℕ, ◌+◌, Bool, true, false, cond, List, [], ◌∷◌, ◌++◌, map, refl}
+use Rattle.std.proofs.Common.{sym, ap, ◌∙◌, subst, arith, append_assoc, append-nil, count_by}
 use Rattle.std.specs.List.{filter, flat_map, sum_by}
 use Rattle.std.proofs.lemmas.List.Sums.{sum_by-cons}
 
@@ -39,16 +40,16 @@ module _ {X : Type 0} where
   pub Perm-append : {xs ys us vs : List X} → Perm xs ys → Perm us vs → Perm (xs ++ us) (ys ++ vs)
   Perm-append {xs} {ys} {us} {vs} p q = then (Perm-right us p) (Perm-left ys q)
 
-  -- an item further back comes to the front
-  pub Perm-front : (x : X) (xs ys : List X) → Perm (xs ++ x ∷ ys) (x ∷ (xs ++ ys))
-  Perm-front x [] ys = Perm-refl (x ∷ ys)
-  Perm-front x (z ∷ xs) ys = then (keep z (Perm-front x xs ys)) (swap z x (xs ++ ys))
+  -- an item further back comes to the prefix
+  pub Perm-prefix : (x : X) (xs ys : List X) → Perm (xs ++ x ∷ ys) (x ∷ (xs ++ ys))
+  Perm-prefix x [] ys = Perm-refl (x ∷ ys)
+  Perm-prefix x (z ∷ xs) ys = then (keep z (Perm-prefix x xs ys)) (swap z x (xs ++ ys))
 
   -- two lists change places
   pub Perm-append_comm : (xs ys : List X) → Perm (xs ++ ys) (ys ++ xs)
   Perm-append_comm [] ys = Perm-equal (sym (append-nil ys))
   Perm-append_comm (x ∷ xs) ys = then (keep x (Perm-append_comm xs ys))
-      (Perm-sym (Perm-front x ys xs))
+      (Perm-sym (Perm-prefix x ys xs))
 
   -- two pairs of lists, paired otherwise
   pub Perm-middle : (a b c d : List X) → Perm ((a ++ b) ++ (c ++ d)) ((a ++ c) ++ (b ++ d))

@@ -1,5 +1,6 @@
 -- What is printed of an integer is read back.
-use Rattle.std.proofs.Common.{◌≡◌, ℕ, suc, ◌<◌, ◌^◌, Bool, true, false, List, [], ◌∷◌, ℤ, pos, negsuc, neg_ℤ, Ok, refl, ap, arith, w64, SFits}
+use Rattle.std.proofs.Common.{◌≡◌, ℕ, suc, ◌<◌, ◌^◌, Bool, true, false, List, [], ◌∷◌, ℤ, pos}
+use Rattle.std.proofs.Common.{negsuc, neg_ℤ, Ok, refl, ap, arith, w64, SFits}
 use Rattle.std.specs.Char.{is_ascii_digit}
 use Rattle.std.specs.Fmt.{decimal, signed_decimal}
 use Rattle.std.specs.List.{list_all}
@@ -8,7 +9,8 @@ use Rattle.std.proofs.lemmas.Bool.Decides.{nat_tests}
 use Rattle.std.proofs.lemmas.Fmt.{decimal_is_IsNumeral}
 use Rattle.std.proofs.lemmas.Str.Parse.{digit_at, digit_from_value}
 use Rattle.pipes_tuple.specs.declared.value.Value.TheVariants.{Int}
-use Rattle.pipes_tuple.specs.Reading.{is_numeral, is_i64, signed_number, number_reading, int_reading}
+use Rattle.pipes_tuple.specs.Reading.{is_numeral, is_i64, signed_number, number_reading}
+use Rattle.pipes_tuple.specs.Reading.{int_reading}
 
 all_pass : (ds : List ℕ) → AllDigits 10 ds → list_all is_ascii_digit ds ≡ true
 all_pass [] h = refl

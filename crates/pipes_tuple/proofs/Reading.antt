@@ -1,6 +1,7 @@
 -- What bytes are, read as a text, by whether they are UTF-8; and the digits of a number, one by
 -- one.
-use Rattle.std.proofs.Common.{◌≡◌, ℕ, ◌+◌, ◌-◌, ◌*◌, ◌^◌, ◌<◌, ◌≤◌, Bool, true, false, min, List, length, get_or, take, Ok, Err, refl, ◌∙◌, sym, arith}
+use Rattle.std.proofs.Common.{◌≡◌, ℕ, ◌+◌, ◌-◌, ◌*◌, ◌^◌, ◌<◌, ◌≤◌, Bool, true, false, min, List}
+use Rattle.std.proofs.Common.{length, get_or, take, Ok, Err, refl, ◌∙◌, sym, arith}
 use Rattle.std.specs.Char.{is_ascii_digit}
 use Rattle.std.specs.Int.{IsInRange}
 use Rattle.std.specs.List.{list_all}

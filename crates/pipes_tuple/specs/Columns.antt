@@ -1,5 +1,6 @@
 -- Lists at columns, which are places counted from 0.
-use Rattle.std.specs.Prelude.{ℕ, ◌<◌, List, Option, length, slice_get, nat_le, All, find, filter_map}
+use Rattle.std.specs.Prelude.{ℕ, ◌<◌, List, Option, length, slice_get, nat_le, All, find}
+use Rattle.std.specs.Prelude.{filter_map}
 
 module _ {X : Type 0} where
   -- the item at each column that is there, in the order of the columns

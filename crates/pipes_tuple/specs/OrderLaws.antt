@@ -4,8 +4,12 @@ use Rattle.std.proofs.Common.{◌≡◌, Bool, true, false, List, Some, refl, sy
 use Rattle.std.proofs.lemmas.Bool.{true≢false}
 use Rattle.std.specs.declared.cmp.Ordering.TheVariants.{Less, Equal}
 use Rattle.std.specs.Ordering.{eq_by_cmp, ordering_reverse, is_lt, is_gt}
-use Rattle.std.specs.Cmp.{IsTotalOrder, IsPartialOrder, IsEquivalence, IsPartialEquivalence, int_cmp_total, nat_cmp_total, nat_eq_equiv, bool_cmp_total, on_total, on_equiv, eq_by_cmp_equiv, partial_equiv_from_equiv, partial_order_from_agreeing_total}
-use Rattle.std.specs.Cmp.Lexicographic.{nat_list_cmp_total, texts_ties, lists_per, lists_equiv, lists_total, lists_ties}
+use Rattle.std.specs.Cmp.{IsTotalOrder, IsPartialOrder, IsEquivalence, IsPartialEquivalence}
+use Rattle.std.specs.Cmp.{int_cmp_total, nat_cmp_total, nat_eq_equiv, bool_cmp_total, on_total}
+use Rattle.std.specs.Cmp.{on_equiv, eq_by_cmp_equiv, partial_equiv_from_equiv}
+use Rattle.std.specs.Cmp.{partial_order_from_agreeing_total}
+use Rattle.std.specs.Cmp.Lexicographic.{nat_list_cmp_total, texts_ties, lists_per, lists_equiv}
+use Rattle.std.specs.Cmp.Lexicographic.{lists_total, lists_ties}
 use Rattle.pipes_tuple.specs.declared.value.Kind.{Kind}
 use Rattle.pipes_tuple.specs.declared.value.Kind.TheVariants as kind
 use Rattle.pipes_tuple.specs.declared.value.Value.{Value}

@@ -1,11 +1,14 @@
 -- What bytes are, read as a value of a kind.
-use Rattle.std.specs.Prelude.{ℕ, ◌-◌, ◌^◌, Bool, true, false, ◌&&◌, List, length, drop, ℤ, pos, negsuc, neg_ℤ, int_le, nat_lt, if◌then◌else◌, Result, Ok, Err, bytes_eq, codes}
+use Rattle.std.specs.Prelude.{ℕ, ◌-◌, ◌^◌, Bool, true, false, ◌&&◌, List, length, drop, ℤ, pos}
+use Rattle.std.specs.Prelude.{negsuc, neg_ℤ, int_le, nat_lt, if◌then◌else◌, Result, Ok, Err}
+use Rattle.std.specs.Prelude.{bytes_eq, codes}
 use Rattle.std.specs.Char.{is_ascii_digit}
 use Rattle.std.specs.List.{list_all}
 use Rattle.std.specs.Str.{is_utf8}
 use Rattle.std.specs.Str.Parse.{digits_value, starts_with_minus}
 use Rattle.pipes_tuple.specs.declared.read.ValueRefusal.{ValueRefusal}
-use Rattle.pipes_tuple.specs.declared.read.ValueRefusal.TheVariants.{NotInt, IntRange, NotUtf8, TooLong, NotFlag}
+use Rattle.pipes_tuple.specs.declared.read.ValueRefusal.TheVariants.{NotInt, IntRange, NotUtf8}
+use Rattle.pipes_tuple.specs.declared.read.ValueRefusal.TheVariants.{TooLong, NotFlag}
 use Rattle.pipes_tuple.specs.declared.value.Kind.{Kind}
 use Rattle.pipes_tuple.specs.declared.value.Kind.TheVariants as kind
 use Rattle.pipes_tuple.specs.declared.value.Value.{Value}

@@ -1,5 +1,6 @@
 // Bytes that do not stand for themselves between quotes.
-ghost use Rattle.std.specs.Prelude.{◌≡◌, ◌<◌, ◌+◌, ◌++◌, MatchOption, IfSome, IsTrue, length, take, drop};
+ghost use Rattle.std.specs.Prelude.{◌≡◌, ◌<◌, ◌+◌, ◌++◌, MatchOption, IfSome, IsTrue, length, take};
+ghost use Rattle.std.specs.Prelude.{drop};
 ghost use Rattle.std.specs.List.{position_from};
 ghost use Rattle.pipes_tuple.specs.Texts.{escaped, escaped_byte, is_escaped};
 

@@ -1,6 +1,7 @@
 // Reading values.
 ghost use Rattle.std.specs.Prelude.{◌≡◌, ◌≢◌, true, IsOk, IfOk, IfErr};
-ghost use Rattle.pipes_tuple.specs.Reading.{number_reading, int_reading, text_reading, flag_reading, reading};
+ghost use Rattle.pipes_tuple.specs.Reading.{number_reading, int_reading, text_reading};
+ghost use Rattle.pipes_tuple.specs.Reading.{flag_reading, reading};
 
 use crate::digits::digits_value;
 use crate::{Kind, LONGEST_TEXT, Text, TextFault, Value};

@@ -1,5 +1,6 @@
 // Tuples of values.
-ghost use Rattle.std.specs.Prelude.{◌≡◌, ℕ, ◌+◌, ◌≤◌, [], ◌++◌, ◌↔◌, length, IfOk, IfSome, IsSome, IsTrue, slice_get, vec_len};
+ghost use Rattle.std.specs.Prelude.{◌≡◌, ℕ, ◌+◌, ◌≤◌, [], ◌++◌, ◌↔◌, length, IfOk, IfSome, IsSome};
+ghost use Rattle.std.specs.Prelude.{IsTrue, slice_get, vec_len};
 ghost use Rattle.std.specs.Option.{option_copied};
 ghost use Rattle.pipes_tuple.specs.Columns.{at_columns, missing_column, HasColumns};
 ghost use Rattle.pipes_tuple.specs.Kinds.{Fits};

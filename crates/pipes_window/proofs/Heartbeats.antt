@@ -1,11 +1,13 @@
 -- The order of the elements, and the heartbeat between those that are known and those that are not.
-use Rattle.std.proofs.Common.{◌≡◌, ℕ, suc, ◌-◌, ◌≤◌, ◌<◌, max, List, [], ◌∷◌, ◌++◌, length, Bool, true, false, cond, nat_lt, Option, Some, None, refl, sym, ap, ◌∙◌, subst, arith, append-nil, length-append, length-drop, drop_at, slice_get, unwrap_or}
+use Rattle.std.proofs.Common.{◌≡◌, ℕ, suc, ◌-◌, ◌≤◌, ◌<◌, max, List, [], ◌∷◌, ◌++◌, length, Bool}
+use Rattle.std.proofs.Common.{true, false, cond, nat_lt, Option, Some, None, refl, sym, ap, ◌∙◌}
+use Rattle.std.proofs.Common.{subst, arith, append-nil, length-append, length-drop, drop_at}
+use Rattle.std.proofs.Common.{slice_get, unwrap_or}
 use Rattle.std.specs.List.{All}
 use Rattle.std.specs.Option.{option_map, option_map_or}
 use Rattle.std.proofs.lemmas.Bool.Decides.{nat_tests}
 use Rattle.std.proofs.lemmas.List.Elements.{All-nil, All-cons, All-append, All-drop}
 use Rattle.pipes_time.specs.Interval.{horizon, IsInterval}
-use Rattle.pipes_time.specs.Slides.{next_slide, slide_end}
 use Rattle.pipes_time.proofs.Slides.{slides-rise}
 use Rattle.pipes_stream.specs.declared.Elem.{Elem}
 use Rattle.pipes_window.specs.declared.item.Item.{Item}
@@ -14,10 +16,14 @@ use Rattle.pipes_window.specs.declared.kind.WindowKind.{WindowKind}
 use Rattle.pipes_window.specs.declared.kind.WindowKind.TheVariants.{Time, Slide, Count}
 use Rattle.pipes_window.specs.declared.row.Row.{Row}
 use Rattle.pipes_window.specs.Items.{rows_of, last_stamp, RisesFrom, StampsRise, last_n}
-use Rattle.pipes_window.specs.Windows.{IsWindow, span_start, end_of, span_of, span_up_to, whole_span, fixed_span, each_row, spans, known, waiting_of, waiting, oldest_stamp, beat_of, waiting_beat}
+use Rattle.pipes_window.specs.Windows.{IsWindow, span_start, end_of, span_of, span_up_to}
+use Rattle.pipes_window.specs.Windows.{whole_span, fixed_span, each_row, spans, known, waiting_of}
+use Rattle.pipes_window.specs.Windows.{waiting, oldest_stamp, beat_of, waiting_beat}
 use Rattle.pipes_window.specs.Laws.{StartsFrom, SpansAreRows, IsHeartbeat, MakesKnown, MakesRest}
 use Rattle.pipes_window.proofs.Lists.{last_n-many, last_n-append}
-use Rattle.pipes_window.proofs.Rising.{RowsFrom, RowsUpTo, rows_rise, rows_of-append, last_stamp-append, rows_up_to, rises_after, waiting_rise, waiting_up_to, slice_get-below}
+use Rattle.pipes_window.proofs.Rising.{RowsFrom, RowsUpTo, rows_rise, rows_of-append}
+use Rattle.pipes_window.proofs.Rising.{last_stamp-append, rows_up_to, rises_after, waiting_rise}
+use Rattle.pipes_window.proofs.Rising.{waiting_up_to, slice_get-below}
 use Rattle.pipes_window.proofs.Splits.{Reach, within, past, reach, known_of-few, split}
 use Rattle.pipes_window.proofs.Snapshots.{spans_are_rows, same_bag}
 

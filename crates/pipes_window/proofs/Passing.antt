@@ -1,5 +1,8 @@
 -- The element that a row makes known, as the code finds it.
-use Rattle.std.proofs.Common.{◌≡◌, ℕ, suc, ◌+◌, ◌-◌, ◌≤◌, ◌<◌, min, List, [], ◌∷◌, ◌++◌, length, Bool, true, false, cond, nat_lt, Option, Some, None, refl, sym, ap, ◌∙◌, subst, arith, append-nil, length-append, length-drop, slice_get, IsSome, IfSome, ◌↔◌}
+use Rattle.std.proofs.Common.{◌≡◌, ℕ, suc, ◌+◌, ◌-◌, ◌≤◌, ◌<◌, min, List, [], ◌∷◌, ◌++◌, length}
+use Rattle.std.proofs.Common.{Bool, true, false, cond, nat_lt, Option, Some, None, refl, sym, ap}
+use Rattle.std.proofs.Common.{◌∙◌, subst, arith, append-nil, length-append, length-drop, slice_get}
+use Rattle.std.proofs.Common.{IsSome, IfSome, ◌↔◌}
 use Rattle.std.proofs.lemmas.Bool.Decides.{nat_tests}
 use Rattle.pipes_time.specs.Interval.{Span, IsInterval, horizon}
 use Rattle.pipes_time.specs.Slides.{HasSlideSpan, IsDuration, next_slide, slide_end}
@@ -8,7 +11,8 @@ use Rattle.pipes_window.specs.declared.kind.WindowKind.{WindowKind}
 use Rattle.pipes_window.specs.declared.kind.WindowKind.TheVariants.{Time, Slide, Count}
 use Rattle.pipes_window.specs.declared.row.Row.{Row}
 use Rattle.pipes_window.specs.Items.{last_n}
-use Rattle.pipes_window.specs.Windows.{IsWindow, end_of, elem_of, span_of, elem_between, fixed_span, each_row, most_rows}
+use Rattle.pipes_window.specs.Windows.{IsWindow, end_of, elem_of, span_of, elem_between, fixed_span}
+use Rattle.pipes_window.specs.Windows.{each_row, most_rows}
 use Rattle.pipes_window.proofs.Splits.{known_of-few}
 
 -- the interval that is tried is the tuple's validity

@@ -1,5 +1,6 @@
 -- Stamps that never fall.
-use Rattle.std.proofs.Common.{◌≡◌, ℕ, zero, suc, ◌-◌, ◌≤◌, ◌<◌, max, List, [], ◌∷◌, ◌++◌, length, drop, Some, refl, sym, ap, subst, arith, slice_get}
+use Rattle.std.proofs.Common.{◌≡◌, ℕ, zero, suc, ◌-◌, ◌≤◌, ◌<◌, max, List, [], ◌∷◌, ◌++◌, length}
+use Rattle.std.proofs.Common.{drop, Some, refl, sym, ap, subst, arith, slice_get}
 use Rattle.std.specs.Prelude.{⊤}
 use Rattle.pipes_time.specs.Interval.{horizon}
 use Rattle.pipes_window.specs.declared.item.Item.{Item}

@@ -1,10 +1,12 @@
 -- The elements that hold an instant are the rows that are valid then.
-use Rattle.std.proofs.Common.{◌≡◌, ℕ, zero, suc, ◌+◌, ◌-◌, ◌≤◌, ◌<◌, ◌↔◌, min, List, [], ◌∷◌, ◌++◌, length, map, Bool, true, false, cond, nat_le, nat_lt, ◌&&◌, Option, Some, refl, sym, ap, ◌∙◌, arith, slice_get, filter, unwrap_or}
+use Rattle.std.proofs.Common.{◌≡◌, ℕ, zero, suc, ◌+◌, ◌-◌, ◌≤◌, ◌<◌, ◌↔◌, min, List, [], ◌∷◌, ◌++◌}
+use Rattle.std.proofs.Common.{length, map, Bool, true, false, cond, nat_le, nat_lt, ◌&&◌, Option}
+use Rattle.std.proofs.Common.{Some, refl, sym, ap, ◌∙◌, arith, slice_get, filter, unwrap_or}
 use Rattle.std.specs.Option.{option_map}
 use Rattle.std.proofs.lemmas.Bool.{lt-ltb}
 use Rattle.std.proofs.lemmas.Bool.Decides.{nat_tests}
 use Rattle.pipes_time.specs.Interval.{horizon}
-use Rattle.pipes_time.specs.Slides.{IsInSlide, last_slide, next_slide, slide_end}
+use Rattle.pipes_time.specs.Slides.{last_slide, next_slide, slide_end}
 use Rattle.pipes_time.proofs.Slides.{in_slide}
 use Rattle.pipes_tuple.specs.declared.value.Value.{Value}
 use Rattle.pipes_tuple.specs.Bag.{SameBag, count}
@@ -15,7 +17,9 @@ use Rattle.pipes_window.specs.declared.kind.WindowKind.{WindowKind}
 use Rattle.pipes_window.specs.declared.kind.WindowKind.TheVariants.{Time, Slide, Count}
 use Rattle.pipes_window.specs.declared.row.Row.{Row}
 use Rattle.pipes_window.specs.Items.{rows_of, StampsRise, last_n}
-use Rattle.pipes_window.specs.Windows.{IsWindow, is_recent, has_come, valid_rows, in_window, span_start, end_of, span_of, elem_between, whole_span, each_row, spans}
+use Rattle.pipes_window.specs.Windows.{IsWindow, is_recent, has_come, valid_rows, in_window}
+use Rattle.pipes_window.specs.Windows.{span_start, end_of, span_of, elem_between, whole_span}
+use Rattle.pipes_window.specs.Windows.{each_row, spans}
 use Rattle.pipes_window.proofs.Lists.{last_n-few, last_n-cons}
 use Rattle.pipes_window.proofs.Rising.{RowsFrom, rows_rise}
 

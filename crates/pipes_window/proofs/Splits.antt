@@ -1,5 +1,7 @@
 -- The elements of a longer list of rows: those that were known, and those of the rows that wait.
-use Rattle.std.proofs.Common.{◌≡◌, ℕ, ◌+◌, ◌-◌, ◌≤◌, ◌<◌, min, List, [], ◌∷◌, ◌++◌, length, Bool, true, false, nat_le, Option, Some, refl, sym, ap, ◌∙◌, arith, append_assoc}
+use Rattle.std.proofs.Common.{◌≡◌, ℕ, ◌+◌, ◌-◌, ◌≤◌, ◌<◌, min, List, [], ◌∷◌, ◌++◌, length, Bool}
+use Rattle.std.proofs.Common.{true, false, nat_le, Option, Some, refl, sym, ap, ◌∙◌, arith}
+use Rattle.std.proofs.Common.{append_assoc}
 use Rattle.std.specs.Option.{option_map}
 use Rattle.std.proofs.lemmas.Bool.Decides.{nat_tests}
 use Rattle.pipes_time.specs.Interval.{horizon}
@@ -9,8 +11,10 @@ use Rattle.pipes_window.specs.declared.kind.WindowKind.{WindowKind}
 use Rattle.pipes_window.specs.declared.kind.WindowKind.TheVariants.{Time, Slide, Count}
 use Rattle.pipes_window.specs.declared.row.Row.{Row}
 use Rattle.pipes_window.specs.Items.{last_n}
-use Rattle.pipes_window.specs.Windows.{IsWindow, end_of, span_up_to, fixed_span, each_row, waiting_of}
-use Rattle.pipes_window.proofs.Lists.{slice_get-past, slice_get-some, slice_get-append, last_n-few, last_n-many}
+use Rattle.pipes_window.specs.Windows.{IsWindow, end_of, span_up_to, fixed_span, each_row}
+use Rattle.pipes_window.specs.Windows.{waiting_of}
+use Rattle.pipes_window.proofs.Lists.{slice_get-past, slice_get-some, slice_get-append, last_n-few}
+use Rattle.pipes_window.proofs.Lists.{last_n-many}
 
 -- the end of a row that has n after it
 end_of-within : (n : ℕ) (row : Row) (later more : List Row) → 1 ≤ n → n ≤ length later

@@ -1,5 +1,7 @@
 -- The items that a window has taken after a call.
-use Rattle.std.proofs.Common.{◌≡◌, ℕ, ◌-◌, ◌≤◌, ◌<◌, List, [], ◌∷◌, ◌++◌, length, Bool, true, false, cond, refl, sym, ap, ◌∙◌, subst, arith, append-nil, slice_get, Result, Ok, Err, is_err, OnOk}
+use Rattle.std.proofs.Common.{◌≡◌, ℕ, ◌-◌, ◌≤◌, ◌<◌, List, [], ◌∷◌, ◌++◌, length, Bool, true, false}
+use Rattle.std.proofs.Common.{cond, refl, sym, ap, ◌∙◌, subst, arith, append-nil, slice_get, Result}
+use Rattle.std.proofs.Common.{Ok, Err, is_err, OnOk}
 use Rattle.std.specs.List.{flat_map}
 use Rattle.std.specs.Option.{option_map_or}
 use Rattle.pipes_time.specs.Interval.{horizon}
@@ -10,13 +12,16 @@ use Rattle.pipes_window.specs.declared.kind.WindowKind.{WindowKind}
 use Rattle.pipes_window.specs.declared.kind.WindowKind.TheVariants.{Time, Slide, Count}
 use Rattle.pipes_window.specs.declared.row.Row.{Row}
 use Rattle.pipes_window.specs.Items.{rows_of, item_stamp, StampsRise}
-use Rattle.pipes_window.specs.Windows.{IsWindow, whole_span, fixed_span, each_row, elem_between, waiting_of, waiting, most_rows, oldest_stamp, beat_of, window_beat}
+use Rattle.pipes_window.specs.Windows.{IsWindow, whole_span, fixed_span, each_row, elem_between}
+use Rattle.pipes_window.specs.Windows.{waiting_of, waiting, most_rows, oldest_stamp, beat_of}
+use Rattle.pipes_window.specs.Windows.{window_beat}
 use Rattle.pipes_window.specs.Laws.{SpansAreRows, IsHeartbeat, MakesKnown, MakesRest}
 use Rattle.pipes_window.specs.State.{State, WindowHasTaken, WindowTakes, WindowFinishes}
 use Rattle.pipes_window.proofs.Lists.{last_n-few, slice_get-past}
 use Rattle.pipes_window.proofs.Splits.{known_of-few}
 use Rattle.pipes_window.proofs.Rising.{last_stamp-append, rises_more}
-use Rattle.pipes_window.proofs.Heartbeats.{waiting-append, item_law, rest_law, heartbeat_law, spans_law}
+use Rattle.pipes_window.proofs.Heartbeats.{waiting-append, item_law, rest_law, heartbeat_law}
+use Rattle.pipes_window.proofs.Heartbeats.{spans_law}
 
 rises : (w : State) (source : List Item) (item : Item) → w.last ≤ item_stamp item
     → item_stamp item < horizon → WindowHasTaken source w → StampsRise (source ++ item ∷ [])

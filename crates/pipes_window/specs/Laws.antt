@@ -1,5 +1,5 @@
 -- What holds of the elements and of the heartbeat of a window, whatever its source gives.
-use Rattle.std.specs.Prelude.{◌≡◌, ℕ, ◌≤◌, ◌<◌, List, [], ◌∷◌, ◌++◌, length, ⊤, false}
+use Rattle.std.specs.Prelude.{◌≡◌, ℕ, ◌≤◌, ◌<◌, List, [], ◌∷◌, ◌++◌, length, false}
 use Rattle.std.specs.List.{All}
 use Rattle.pipes_time.specs.Interval.{horizon, IsInterval}
 use Rattle.pipes_time.specs.Rising.{RisesBy}

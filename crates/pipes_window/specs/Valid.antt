@@ -1,5 +1,6 @@
 -- The rows that are valid at one instant, as they are gathered.
-use Rattle.std.specs.Prelude.{◌≡◌, ℕ, ◌+◌, ◌≤◌, List, [], ◌∷◌, ◌++◌, length, ⊤, Bool, nat_le, nat_lt, ◌&&◌}
+use Rattle.std.specs.Prelude.{◌≡◌, ℕ, ◌+◌, ◌≤◌, List, [], ◌∷◌, ◌++◌, length, ⊤, Bool, nat_le}
+use Rattle.std.specs.Prelude.{nat_lt, ◌&&◌}
 use Rattle.pipes_time.specs.Slides.{last_slide}
 use Rattle.pipes_tuple.specs.declared.value.Value.{Value}
 use Rattle.pipes_window.specs.declared.item.Item.{Item}

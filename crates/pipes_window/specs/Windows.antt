@@ -1,5 +1,7 @@
 -- Windows: the rows that are valid at an instant, the interval of each row, and the heartbeat.
-use Rattle.std.specs.Prelude.{ℕ, ◌+◌, ◌-◌, ◌≤◌, min, List, [], ◌∷◌, ◌++◌, Bool, nat_le, nat_lt, ◌&&◌, if◌then◌else◌, Option, Some, None, map, filter, slice_get, unwrap_or}
+use Rattle.std.specs.Prelude.{ℕ, ◌+◌, ◌-◌, ◌≤◌, min, List, [], ◌∷◌, ◌++◌, Bool, nat_le, nat_lt}
+use Rattle.std.specs.Prelude.{◌&&◌, if◌then◌else◌, Option, Some, None, map, filter, slice_get}
+use Rattle.std.specs.Prelude.{unwrap_or}
 use Rattle.std.specs.Option.{option_map, option_map_or}
 use Rattle.pipes_time.specs.Interval.{Span, horizon, closed}
 use Rattle.pipes_time.specs.Slides.{IsDuration, last_slide, next_slide, slide_end}

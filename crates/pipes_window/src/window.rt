@@ -1,13 +1,16 @@
 // Windows: each row's validity, as soon as it is known.
-ghost use Rattle.std.specs.Prelude.{◌≡◌, ℕ, ◌≤◌, ◌<◌, List, [], ◌∷◌, ◌++◌, ◌↔◌, false, length, slice_get, IfSome, IsSome, IsErr, OnOk, OnErr};
+ghost use Rattle.std.specs.Prelude.{◌≡◌, ℕ, ◌≤◌, ◌<◌, List, [], ◌∷◌, ◌++◌, ◌↔◌, false, length};
+ghost use Rattle.std.specs.Prelude.{slice_get, IfSome, IsSome, IsErr, OnOk, OnErr};
 ghost use Rattle.std.specs.Bool.{OnTrue};
 ghost use Rattle.pipes_window.specs.declared.item.Item.{Item};
 ghost use Rattle.pipes_window.specs.declared.item.Item.TheVariants as items;
 ghost use Rattle.std.specs.List.{flat_map};
 ghost use Rattle.std.specs.Option.{option_map_or};
-ghost use Rattle.pipes_window.specs.Windows.{IsWindow, each_row, elem_between, elem_of, fixed_span, most_rows, waiting_of, window_beat};
+ghost use Rattle.pipes_window.specs.Windows.{IsWindow, each_row, elem_between, elem_of, fixed_span};
+ghost use Rattle.pipes_window.specs.Windows.{most_rows, waiting_of, window_beat};
 ghost use Rattle.pipes_window.specs.Laws.{IsHeartbeat, SpansAreRows};
-ghost use Rattle.pipes_window.specs.State.{WindowFails, WindowFinishes, WindowHasTaken, WindowTakes, new_state};
+ghost use Rattle.pipes_window.specs.State.{WindowFails, WindowFinishes, WindowHasTaken};
+ghost use Rattle.pipes_window.specs.State.{WindowTakes, new_state};
 
 use crate::WindowKind;
 use crate::ring::slide;

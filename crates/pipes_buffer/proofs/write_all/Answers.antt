@@ -8,5 +8,6 @@ pieces-preserved g c =
     record {
       within = within;
       later = search rules;
-      written = appends_piece _ _ _ c.pieces.place c.in_ok-place.field-0 c.args.bytes.now c.pieces.invariant.within within c.pieces.invariant.written c.in_ok-place.ensures.bytes;
+      written = appends_piece _ _ _ c.pieces.place c.in_ok-place.field-0 c.args.bytes.now
+          c.pieces.invariant.within within c.pieces.invariant.written c.in_ok-place.ensures.bytes;
     }

@@ -6,7 +6,8 @@ abbrev pub invariant-pieces : goal.invariant-pieces
 invariant-pieces g l = record {
   within : l.place ≤ length l.bytes;
   later : g.K.Sink.faults l.initial.out ≤ g.K.Sink.faults l.out;
-  written : Appends (g.K.Sink.written l.initial.out) (g.K.Sink.written l.out) (take l.place l.bytes);
+  written : Appends (g.K.Sink.written l.initial.out) (g.K.Sink.written l.out)
+      (take l.place l.bytes);
 }
 
 abbrev pub decreases-pieces : goal.decreases-pieces

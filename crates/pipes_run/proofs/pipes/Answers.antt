@@ -1,5 +1,5 @@
 use Rattle.std.proofs.Common.{map, string_bytes, None, refl}
-use Rattle.pipes_fault.specs.Fault.{fault_seen}
+use Rattle.pipes_error.specs.Fault.{fault_seen}
 use Rattle.pipes_run.proofs.Calls.{says_nothing, complete}
 use Rattle.pipes_run.proofs.pipes.Goals as goal
 
@@ -13,4 +13,6 @@ returns-in-Ok-clause-call g c = record {
 
 pub returns-in-Err-clause-complete : goal.returns-in-Err-clause-complete
 returns-in-Err-clause-complete g c =
-    complete (map string_bytes c.args.words.now) (g.F.Files.told c.args.files.now) _ _ (g.K.Sink.written c.args.out.now) (g.K.Sink.written c.do_command.new.out) (fault_seen c.in-Err.fault) c.status.result c.status.ensures c.in-Err.ensures
+    complete (map string_bytes c.args.words.now) (g.F.Files.known c.args.files.now) _ _
+    (g.K.Sink.written c.args.out.now) (g.K.Sink.written c.do_command.new.out)
+    (fault_seen c.in-Err.fault) c.status.result c.status.ensures c.in-Err.ensures

@@ -6,4 +6,10 @@ use Rattle.pipes_box.proofs.plan_box.total_held.Goals as goal
 
 pub loop-node-preserved : goal.loop-node-preserved
 loop-node-preserved c =
-    omega (arith, c.loop-node.invariant, c.held.ensures, sum-more (λ (n : Node). held_in n.operator) c.args.nodes.now c.loop-node.node-index c.node-item.result (omega arith) c.node-item.is)
+    omega (
+      arith,
+      c.loop-node.invariant,
+      c.held.ensures,
+      sum-more (λ (n : Node). held_in n.operator)
+          c.args.nodes.now c.loop-node.node-index c.node-item.result (omega arith) c.node-item.is,
+    )

@@ -4,4 +4,5 @@ use Rattle.pipes_box.specs.Nodes.{held_in}
 use Rattle.pipes_box.proofs.plan_box.total_held.Given as goal
 
 abbrev pub invariant-loop-node : goal.invariant-loop-node
-invariant-loop-node l = l.held ≡ min (sum_by (λ n. held_in n.operator) (take l.node-index l.nodes)) (2 ^ 64 - 1)
+invariant-loop-node l = l.held ≡ min (sum_by (λ n. held_in n.operator) (take l.node-index l.nodes))
+    (2 ^ 64 - 1)

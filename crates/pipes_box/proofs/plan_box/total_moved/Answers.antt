@@ -5,4 +5,9 @@ use Rattle.pipes_box.proofs.plan_box.total_moved.Goals as goal
 
 pub loop-node-preserved : goal.loop-node-preserved
 loop-node-preserved c =
-    omega (arith, c.loop-node.invariant, sum-more (λ (n : Node). n.moved) c.args.nodes.now c.loop-node.node-index c.node-item.result (omega arith) c.node-item.is)
+    omega (
+      arith,
+      c.loop-node.invariant,
+      sum-more (λ (n : Node). n.moved) c.args.nodes.now
+          c.loop-node.node-index c.node-item.result (omega arith) c.node-item.is,
+    )

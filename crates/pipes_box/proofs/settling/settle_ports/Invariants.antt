@@ -7,6 +7,8 @@ abbrev pub invariant-loop-port : goal.invariant-loop-port
 invariant-loop-port l = record {
   count : length l.nodes ≡ length l.initial.nodes;
   linked : IsLinked l.nodes;
-  ports : (d : Node) → length (get_or l.nodes l.parent d).ports.items ≡ length (get_or l.initial.nodes l.parent d).ports.items;
-  settles : (first : List Node) → Settles first l.initial.nodes l.parent 0 → Settles first l.nodes l.parent l.port;
+  ports : (d : Node) → length (get_or l.nodes l.parent d).ports.items ≡ length
+      (get_or l.initial.nodes l.parent d).ports.items;
+  settles : (first : List Node) → Settles first l.initial.nodes l.parent 0
+      → Settles first l.nodes l.parent l.port;
 }

@@ -1,4 +1,5 @@
-use Rattle.std.proofs.Common.{rules, ◌≡◌, ◌<◌, [], ◌∷◌, List, Some, None, length, slice_get, subst, sym, ap, ◌∙◌}
+use Rattle.std.proofs.Common.{rules, ◌≡◌, ◌<◌, [], ◌∷◌, List, Some, None, length, slice_get, subst}
+use Rattle.std.proofs.Common.{sym, ap, ◌∙◌}
 use Rattle.std.specs.Map.{values_of}
 use Rattle.pipes_stream.specs.declared.Elem.{Elem}
 use Rattle.pipes_coalesce.specs.Filed.{Entries}

@@ -1,4 +1,5 @@
-use Rattle.std.proofs.Common.{rules, ◌≡◌, List, Some, None, length, slice_get, swap_remove, subst, sym, ap, ◌∙◌}
+use Rattle.std.proofs.Common.{rules, ◌≡◌, List, Some, None, length, slice_get, swap_remove, subst}
+use Rattle.std.proofs.Common.{sym, ap, ◌∙◌}
 use Rattle.pipes_tuple.specs.declared.value.Value.{Value}
 use Rattle.pipes_stream.specs.declared.Elem.{Elem}
 use Rattle.pipes_coalesce.specs.Filed.{Entries, AreFiled, Finds, contents}

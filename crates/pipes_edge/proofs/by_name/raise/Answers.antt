@@ -10,13 +10,17 @@ pub returns-in-Some-clause-raised : goal.returns-in-Some-clause-raised
 returns-in-Some-clause-raised c =
     let w = c.saturating_add.result in
     let new = c.get_mut.follows.lender w in
-    let sets = btree_map_updates_text c.args.name.now c.args.counts.now new (Some w) ((c.get_mut.follows.holds w).3 (search rules)) in
+    let sets = btree_map_updates_text c.args.name.now c.args.counts.now new (Some w)
+    ((c.get_mut.follows.holds w).3 (search rules)) in
     let more : w ≡ raised c.in-Some.count.now = omega arith in
-    let was : counts_in c.args.counts.now c.args.name.now ≡ Some c.in-Some.count.now = sym c.in-Some.ensures.value in
+    let was : counts_in c.args.counts.now c.args.name.now ≡ Some c.in-Some.count.now =
+    sym c.in-Some.ensures.value in
     rw (was, ← more) (fun_ext sets)
 
 pub returns-in-Some-clause-each : goal.returns-in-Some-clause-each
-returns-in-Some-clause-each c = IsSome-raised_at (counts_in c.args.counts.now) _ _ (returns-in-Some-clause-raised c)
+returns-in-Some-clause-each c = IsSome-raised_at (counts_in c.args.counts.now) _ _
+    (returns-in-Some-clause-raised c)
 
 pub returns-in-Some-clause-later : goal.returns-in-Some-clause-later
-returns-in-Some-clause-later c = count_at-raised_at (counts_in c.args.counts.now) _ _ (returns-in-Some-clause-raised c)
+returns-in-Some-clause-later c = count_at-raised_at (counts_in c.args.counts.now) _ _
+    (returns-in-Some-clause-raised c)

@@ -1,5 +1,5 @@
 use Rattle.std.proofs.Common.{◌≡◌, take}
-use Rattle.pipes_plan.specs.Algebra.{values_of}
+use Rattle.pipes_relation.specs.Relations.{values_of}
 use Rattle.pipes_flat.proofs.projection.values.Given as goal
 
 abbrev pub invariant-loop-expr : goal.invariant-loop-expr

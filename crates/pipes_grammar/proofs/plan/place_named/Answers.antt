@@ -6,5 +6,6 @@ use Rattle.pipes_grammar.proofs.plan.place_named.Goals as goal
 
 pub returns-clause-value : goal.returns-clause-value
 returns-clause-value c =
-    position_from_yields_List (bytes_eq c.args.word.now) _ _ c.position.result c.position.ensures.ran (YieldsList-from_slice c.args.names.now cc)
+    position_from_yields_List (bytes_eq c.args.word.now) _ _ c.position.result
+    c.position.ensures.ran (YieldsList-from_slice c.args.names.now cc)
     (λ x b q k. search (rules, tests))

@@ -6,9 +6,11 @@ use Rattle.pipes_line.proofs.quoted.copy_fields.Goals as goal
 pub fields-preserved : goal.fields-preserved
 fields-preserved c =
     let more = one_more (fields_of c.args.row.now) c.fields.i c.in-Some.field.now (search rules) in
-    let closed : c.close.new.self.closed ≡ c.fields.copied.closed ++ c.in-Some.field.now ∷ [] = search rules in
+    let closed : c.close.new.self.closed ≡ c.fields.copied.closed ++ c.in-Some.field.now ∷ [] =
+    search rules in
     record {
-      closed = closed ∙ ap (λ (l : List (List ℕ)). l ++ c.in-Some.field.now ∷ []) c.fields.invariant.closed ∙ sym more;
+      closed = closed ∙ ap (λ (l : List (List ℕ)). l ++ c.in-Some.field.now ∷ [])
+          c.fields.invariant.closed ∙ sym more;
       last = search rules;
     }
 

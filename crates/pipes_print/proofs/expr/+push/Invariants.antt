@@ -1,5 +1,5 @@
 use Rattle.std.proofs.Common.{◌+◌, ◌*◌, max}
-use Rattle.pipes_plan.specs.declared.expr.Expr.{size-Expr}
+use Rattle.pipes_expr.specs.declared.expr.Expr.{size-Expr}
 use Rattle.pipes_print.proofs.expr.+push.Given as goal
 
 abbrev pub decreases-push_expr : goal.decreases-push_expr

@@ -1,6 +1,6 @@
 use Rattle.std.proofs.Common.{arith}
 use Rattle.pipes_reader.specs.Texts.{past_limit}
-use Rattle.pipes_reader.proofs.Wholes.{told_refused}
+use Rattle.pipes_reader.proofs.Wholes.{known_refused}
 use Rattle.pipes_reader.proofs.text.read_text.Goals as goal
 
 pub returns-then-bytes-gt-LONGEST_FILE : goal.returns-then-bytes-gt-LONGEST_FILE
@@ -8,7 +8,7 @@ returns-then-bytes-gt-LONGEST_FILE g c = past_limit (omega (arith, c.if-bytes-gt
 
 pub returns-in-Err-Refused : goal.returns-in-Err-Refused
 returns-in-Err-Refused g c =
-    told_refused (g.P.Parser.reads c.args.parser.now) c.args.bytes.now c.as_slice.result.now
+    known_refused (g.P.Parser.reads c.args.parser.now) c.args.bytes.now c.as_slice.result.now
     c.in_ok-tokens.tokens.items c.in-Err-Refused.refusal c.tell.result
     (omega (arith, c.if-bytes-gt-LONGEST_FILE.false)) c.in_ok-tokens.ensures.tokens
     c.as_slice.ensures.value

@@ -1,25 +1,47 @@
 use Rattle.std.proofs.Common.{refl}
-use Rattle.pipes_fault.specs.Fault.{fault_seen}
-use Rattle.pipes_words.specs.Command as command
-use Rattle.pipes_run.specs.Outcome.{Counts}
-use Rattle.pipes_run.specs.Seen.{fault_of}
+use Rattle.pipes_error.specs.Fault.{fault_seen}
+use Rattle.pipes_args.specs.Command as command
+use Rattle.pipes_run.specs.Outcome.{FaultCounts}
+use Rattle.pipes_run.specs.Seen.{step_fault}
 use Rattle.pipes_run.proofs.Composing.{ran_unread, ran_unstarted, ran_read}
 use Rattle.pipes_run.proofs.answer.answer_query.Goals as goal
 
 pub returns-in_default : goal.returns-in_default
-returns-in_default g c = ran_unstarted (command.At c.args.query.now c.args.time) (g.F.Files.told c.args.files.now) _ _ (g.K.Sink.written c.args.out.now)
+returns-in_default g c = ran_unstarted (command.At c.args.query.now c.args.time)
+    (g.F.Files.known c.args.files.now) _ _ (g.K.Sink.written c.args.out.now)
 
 pub returns-in-Ok-query_at : goal.returns-in-Ok-query_at
 returns-in-Ok-query_at g c =
-    let before : Counts = record { files = g.F.Files.faults c.args.files.now; searches = g.F.Files.failed_searches c.args.files.now; out = g.K.Sink.faults c.args.out.now } in
-    let mid : Counts = record { files = g.F.Files.faults c.query_at.new.files; searches = g.F.Files.failed_searches c.query_at.new.files; out = g.K.Sink.faults c.args.out.now } in
-    let now : Counts = record { files = g.F.Files.faults c.answer_checked.new.files; searches = g.F.Files.failed_searches c.answer_checked.new.files; out = g.K.Sink.faults c.answer_checked.new.out } in
+    let before : FaultCounts = record {
+      files = g.F.Files.faults c.args.files.now;
+      searches =
+          g.F.Files.failed_searches c.args.files.now;
+      out = g.K.Sink.faults c.args.out.now;
+    } in
+    let mid : FaultCounts = record {
+      files = g.F.Files.faults c.query_at.new.files;
+      searches =
+          g.F.Files.failed_searches c.query_at.new.files;
+      out = g.K.Sink.faults c.args.out.now;
+    } in
+    let now : FaultCounts = record {
+      files = g.F.Files.faults c.answer_checked.new.files;
+      searches =
+          g.F.Files.failed_searches c.answer_checked.new.files;
+      out =
+          g.K.Sink.faults c.answer_checked.new.out;
+    } in
     let read = c.in-Ok-query_at.ensures in
-    ran_read (command.At c.args.query.now c.args.time) c.in-Ok-query_at.checked.query (g.F.Files.told c.args.files.now) (g.F.Files.told c.query_at.new.files) before mid now
-    (g.K.Sink.written c.args.out.now) (g.K.Sink.written c.answer_checked.new.out) (fault_of c.answer_checked.result) read.told read.later read.searches refl read.gives (λ files other tells holds. read.only files other tells holds)
+    ran_read (command.At c.args.query.now c.args.time) c.in-Ok-query_at.checked.query
+    (g.F.Files.known c.args.files.now) (g.F.Files.known c.query_at.new.files) before mid now
+    (g.K.Sink.written c.args.out.now) (g.K.Sink.written c.answer_checked.new.out)
+    (step_fault c.answer_checked.result) read.known read.later read.searches refl read.gives
+    (λ files other tells holds. read.only files other tells holds)
     (c.answer_checked.ensures c.args.query.now)
 
 pub returns : goal.returns
 returns g c =
     let read = c.in-Err.ensures in
-    ran_unread (command.At c.args.query.now c.args.time) (g.F.Files.told c.args.files.now) _ _ (g.K.Sink.written c.args.out.now) (fault_seen c.in-Err.fault) read.served read.cause read.gives (λ files query tells holds. read.only files query tells holds)
+    ran_unread (command.At c.args.query.now c.args.time) (g.F.Files.known c.args.files.now) _ _
+    (g.K.Sink.written c.args.out.now) (fault_seen c.in-Err.fault) read.served read.cause
+    read.gives (λ files query tells holds. read.only files query tells holds)

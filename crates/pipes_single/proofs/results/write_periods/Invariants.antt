@@ -6,5 +6,6 @@ use Rattle.pipes_single.proofs.results.write_periods.Given as goal
 abbrev pub invariant-periods : goal.invariant-periods
 invariant-periods g l = record {
   later : g.K.Sink.faults l.initial.out ≤ g.K.Sink.faults l.out;
-  passed : PassesOn (g.K.Sink.written l.initial.out) (g.K.Sink.written l.out) (flat_map period_line (take l.period-index l.periods)) l.text.items;
+  passed : PassesOn (g.K.Sink.written l.initial.out) (g.K.Sink.written l.out)
+      (flat_map period_line (take l.period-index l.periods)) l.text.items;
 }

@@ -9,6 +9,8 @@ invariant-found g l = record {
   can : (goal.iterator-found g).can_next l.elem-iterator;
   finite : (goal.iterator-found g).is_finite l.elem-iterator;
   form : form_of l.results ≡ form_of l.initial.results;
-  keeps : (init : Option (List ℕ)) (elems : List Elem) → Keeps init (g.K.Sink.written l.initial.out) l.initial.results elems → Keeps init (g.K.Sink.written l.out) l.results (elems ++ passing l.query.plan l.yielded);
+  keeps : (init : Option (List ℕ)) (elems : List Elem) → Keeps init (g.K.Sink.written l.initial.out)
+      l.initial.results elems → Keeps init (g.K.Sink.written l.out) l.results
+      (elems ++ passing l.query.plan l.yielded);
   later : g.K.Sink.faults l.initial.out ≤ g.K.Sink.faults l.out;
 }

@@ -13,6 +13,9 @@ returns-in_err-take-in-Item-clause-err g c =
     let init = g.K.Sink.written c.args.out.now in
     let now = g.K.Sink.written c.take.new.out in
     let goes = c.items.invariant.goes in
-    on_err c.from_residual.result (subst (λ (f : Form). Stopped f query left init now) c.items.invariant.form
-    (stopped_taking query left (g.S.Source.left c.items.src) init (g.K.Sink.written c.items.out) c.items.reader c.items.sending goes (g.S.Source.left c.next.new.src) now c.next.new.self
-    (form_of c.items.sending.results) c.in-Item.item (c.in-Item.ensures.takes goes.going) (c.in_err-take-in-Item.ensures.err init goes.taken goes.sends)))
+    on_err c.from_residual.result (subst (λ (f : Form). Stopped f query left init now)
+    c.items.invariant.form
+    (stopped_taking query left (g.S.Source.left c.items.src) init (g.K.Sink.written c.items.out)
+    c.items.reader c.items.sending goes (g.S.Source.left c.next.new.src) now c.next.new.self
+    (form_of c.items.sending.results) c.in-Item.item (c.in-Item.ensures.takes goes.going)
+    (c.in_err-take-in-Item.ensures.err init goes.taken goes.sends)))

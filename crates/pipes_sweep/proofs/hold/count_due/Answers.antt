@@ -7,10 +7,12 @@ use Rattle.pipes_sweep.proofs.hold.count_due.Goals as goal
 pub returns : goal.returns
 returns c =
     let parted = IsPartitionedBy-leb (λ (e : Elem). e.span.start) _ c.args.t c.requires in
-    let point = IsPartitionPoint-from_clause (λ (e : Elem). leb e.span.start c.args.t) _ _ c.partition_point.ensures.partitioned parted (λ a r q k. search rules) in
-    let place : IsPlace c.args.t c.args.waiting.now.items c.partition_point.result = place-from_point c.args.t _ _ (search rules) point in
+    let point = IsPartitionPoint-from_clause (λ (e : Elem). leb e.span.start c.args.t) _ _
+    c.partition_point.ensures.partitioned parted (λ a r q k. search rules) in
+    let place : IsPlace c.args.t c.args.waiting.now.items c.partition_point.result =
+    place-from_point c.args.t _ _ (search rules) point in
     record {
       bound = c.partition_point.ensures.bound;
-      front = due-take c.args.t _ _ place;
+      prefix = due-take c.args.t _ _ place;
       back = later-drop c.args.t _ _ place;
     }

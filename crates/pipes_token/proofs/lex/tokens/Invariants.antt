@@ -5,7 +5,8 @@ use Rattle.pipes_token.proofs.lex.tokens.Given as goal
 
 abbrev pub invariant-tokens : goal.invariant-tokens
 invariant-tokens l = record {
-  whole : (more : List Token) → Tokens (length l.fn.bytes) l.rest more → Tokens (length l.fn.bytes) l.fn.bytes (l.made.items ++ more);
+  whole : (more : List Token) → Tokens (length l.fn.bytes) l.rest more
+      → Tokens (length l.fn.bytes) l.fn.bytes (l.made.items ++ more);
   bound : length l.rest ≤ length l.fn.bytes;
 }
 

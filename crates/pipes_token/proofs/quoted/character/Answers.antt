@@ -9,9 +9,12 @@ returns-in_default-clause-none c = no_char_in_none c.args.bytes.now c.in_default
 pub returns-then-is_end-clause-none : goal.returns-then-is_end-clause-none
 returns-then-is_end-clause-none c =
     let h = c.if-is_end.ensures in
-    no_char_at_byte c.in-Some.byte c.in-Some.behind.now c.args.bytes.now c.in-Some.ensures.parts h.0 h.1 h.2
+    no_char_at_byte c.in-Some.byte c.in-Some.later.now c.args.bytes.now c.in-Some.ensures.parts h.0
+    h.1 h.2
 
 pub returns-then-byte-lt128-clause-begins : goal.returns-then-byte-lt128-clause-begins
 returns-then-byte-lt128-clause-begins c =
     let h = c.if-is_end.ensures in
-    subst (λ (x : ℕ). BeginsChar c.args.bytes.now x c.in-Some.behind.now) (sym c.from.ensures) (ascii_begins c.in-Some.byte c.in-Some.behind.now c.args.bytes.now c.in-Some.ensures.parts c.if-byte-lt128.true h.0 c.if-byte-eq92.false h.1)
+    subst (λ (x : ℕ). BeginsChar c.args.bytes.now x c.in-Some.later.now) (sym c.from.ensures)
+    (ascii_begins c.in-Some.byte c.in-Some.later.now c.args.bytes.now c.in-Some.ensures.parts
+    c.if-byte-lt128.true h.0 c.if-byte-eq92.false h.1)

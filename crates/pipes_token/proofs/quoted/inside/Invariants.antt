@@ -4,7 +4,8 @@ use Rattle.pipes_token.proofs.quoted.inside.Given as goal
 
 abbrev pub invariant-characters : goal.invariant-characters
 invariant-characters l = record {
-  grows : (content left : List ℕ) → IsInside l.rest content left → IsInside l.fn.bytes (string_bytes l.content ++ content) left;
+  grows : (content left : List ℕ) → IsInside l.rest content left
+      → IsInside l.fn.bytes (string_bytes l.content ++ content) left;
   bound : length l.rest ≤ length l.fn.bytes;
 }
 

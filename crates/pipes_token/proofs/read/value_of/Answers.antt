@@ -5,8 +5,14 @@ use Rattle.pipes_token.proofs.read.value_of.Goals as goal
 
 pub loop-digit-preserved : goal.loop-digit-preserved
 loop-digit-preserved c =
-    let more = more_digits c.args.digits.now c.loop-digit.digit-index c.loop-digit.value c.requires c.loop-digit-test.true c.loop-digit.invariant in
-    rw (c.saturating_add-value.ensures, c.saturating_mul.ensures, c.from.ensures, c.saturating_sub.ensures) more
+    let more = more_digits c.args.digits.now c.loop-digit.digit-index c.loop-digit.value c.requires
+    c.loop-digit-test.true c.loop-digit.invariant in
+    rw (
+      c.saturating_add-value.ensures,
+      c.saturating_mul.ensures,
+      c.from.ensures,
+      c.saturating_sub.ensures,
+    ) more
 
 pub returns : goal.returns
 returns c =

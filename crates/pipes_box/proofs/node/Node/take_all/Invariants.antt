@@ -10,7 +10,8 @@ invariant-loop-port l = record {
   moves : NodeMoves l.initial.self l.self;
   stands : NodeStands l.initial.self → NodeStands l.self;
   number : total_ready l.initial.self.ports.items ≡ total_ready l.self.ports.items + l.taken;
-  drained : (k : ℕ) (d : Port) → k < l.port → k < length l.self.ports.items → ready (get_or l.self.ports.items k d).inlet ≡ 0;
+  drained : (k : ℕ) (d : Port) → k < l.port → k < length l.self.ports.items
+      → ready (get_or l.self.ports.items k d).inlet ≡ 0;
   idle : l.taken ≡ 0 → l.self.pending ≡ l.initial.self.pending;
   going : l.self.failed ≡ l.initial.self.failed;
   outlet : l.self.outlet ≡ l.initial.self.outlet;

@@ -6,15 +6,24 @@ use Rattle.pipes_box.proofs.node.Node.take_one.Goals as goal
 
 pub returns-in_ok-work-clause-stands : goal.returns-in_ok-work-clause-stands
 returns-in_ok-work-clause-stands c =
-    node-passes c.args.self.now c.work.new.self c.args.port c.take.new.self c.in-Some.taken.0 c.requires.in_range c.work.ensures.works.task (ap (λ v. v.items) c.work.ensures.works.ports) c.work.ensures.works.outlet
-    (port-took c.args.self.now.ports.items c.args.port c.index_mut.result.now c.take.new.self c.in-Some.taken.0 _ _ c.requires.in_range c.index_mut.ensures.value c.if-passed.true c.in-Some.ensures.took)
+    node-passes c.args.self.now c.work.new.self c.args.port c.take.new.self c.in-Some.taken.0
+    c.requires.in_range c.work.ensures.works.task (ap (λ v. v.items) c.work.ensures.works.ports)
+    c.work.ensures.works.outlet
+    (port-took c.args.self.now.ports.items c.args.port c.index_mut.result.now c.take.new.self
+    c.in-Some.taken.0 _ _ c.requires.in_range c.index_mut.ensures.value c.if-passed.true
+    c.in-Some.ensures.took)
     c.in_ok-work.ensures.emits
 
 pub returns-else-passed-clause-stands : goal.returns-else-passed-clause-stands
 returns-else-passed-clause-stands c =
-    node-skips c.args.self.now _ c.args.port c.take.new.self c.in-Some.taken.0 c.requires.in_range refl refl refl refl
-    (port-took c.args.self.now.ports.items c.args.port c.index_mut.result.now c.take.new.self c.in-Some.taken.0 _ _ c.requires.in_range c.index_mut.ensures.value c.if-passed.false c.in-Some.ensures.took)
+    node-skips c.args.self.now _ c.args.port c.take.new.self c.in-Some.taken.0 c.requires.in_range
+    refl refl refl refl
+    (port-took c.args.self.now.ports.items c.args.port c.index_mut.result.now c.take.new.self
+    c.in-Some.taken.0 _ _ c.requires.in_range c.index_mut.ensures.value c.if-passed.false
+    c.in-Some.ensures.took)
 
 pub returns-in-None-clause-same : goal.returns-in-None-clause-same
 returns-in-None-clause-same c =
-    ap (λ (p : Port). set c.args.self.now.ports.items c.args.port p) (c.in-None.ensures.none ∙ c.index_mut.ensures.value) ∙ set-get_or c.args.self.now.ports.items c.args.port c.index_mut.result.now
+    ap (λ (p : Port). set c.args.self.now.ports.items c.args.port p) (c.in-None.ensures.none
+    ∙ c.index_mut.ensures.value) ∙ set-get_or c.args.self.now.ports.items c.args.port
+    c.index_mut.result.now

@@ -7,11 +7,15 @@ use Rattle.pipes_box.proofs.node.Node.take_port.Goals as goal
 pub overflow_add-taken : goal.overflow_add-taken
 overflow_add-taken c =
     let few = total_ready-small c.args.self.now.ports.items c.requires.counted.few in
-    let took : total_ready c.loop-taken.self.ports.items ≡ total_ready c.take_one.new.self.ports.items + 1 = rw c.if-branch.true at c.in_ok-take_one.ensures.took in
+    let took : total_ready c.loop-taken.self.ports.items ≡ total_ready
+    c.take_one.new.self.ports.items + 1 = rw c.if-branch.true at
+    c.in_ok-take_one.ensures.took in
     omega (arith, few, c.loop-taken.invariant.number, took)
 
 pub returns-clause-number : goal.returns-clause-number
 returns-clause-number c =
-    let same : c.take_one.new.self.ports.items ≡ c.loop-taken.self.ports.items = rw c.if-branch.false at c.in_ok-take_one.ensures.same in
-    let ready : total_ready c.take_one.new.self.ports.items ≡ total_ready c.loop-taken.self.ports.items = ap total_ready same in
+    let same : c.take_one.new.self.ports.items ≡ c.loop-taken.self.ports.items =
+    rw c.if-branch.false at c.in_ok-take_one.ensures.same in
+    let ready : total_ready c.take_one.new.self.ports.items ≡ total_ready
+    c.loop-taken.self.ports.items = ap total_ready same in
     omega (arith, ready, c.loop-taken.invariant.number)

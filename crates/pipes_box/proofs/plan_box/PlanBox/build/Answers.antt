@@ -8,11 +8,19 @@ use Rattle.pipes_box.proofs.plan_box.PlanBox.build.Goals as goal
 pub returns-clause-sound : goal.returns-clause-sound
 returns-clause-sound c =
     built-sound c.args.schemas.now c.args.plan.now _ c.in_ok-part.part
-    (subst (λ (ls : List Leaf). PartBuilt c.args.schemas.now c.args.plan.now [] c.build_at.new.nodes.items ls c.build_at.new.leaves.items c.in_ok-part.part) c.new-leaves.ensures.items
-    (subst (λ (ns : List Node). PartBuilt c.args.schemas.now c.args.plan.now ns c.build_at.new.nodes.items c.new-leaves.result.items c.build_at.new.leaves.items c.in_ok-part.part) c.new-nodes.ensures.items c.in_ok-part.ensures)) refl
+    (subst (λ (ls : List Leaf). PartBuilt c.args.schemas.now c.args.plan.now []
+    c.build_at.new.nodes.items ls c.build_at.new.leaves.items c.in_ok-part.part)
+    c.new-leaves.ensures.items
+    (subst (λ (ns : List Node). PartBuilt c.args.schemas.now c.args.plan.now ns
+    c.build_at.new.nodes.items c.new-leaves.result.items c.build_at.new.leaves.items
+    c.in_ok-part.part) c.new-nodes.ensures.items c.in_ok-part.ensures)) refl
 
 pub returns-clause-stands : goal.returns-clause-stands
 returns-clause-stands c =
     built-stands c.args.schemas.now c.args.plan.now _ c.in_ok-part.part
-    (subst (λ (ls : List Leaf). PartBuilt c.args.schemas.now c.args.plan.now [] c.build_at.new.nodes.items ls c.build_at.new.leaves.items c.in_ok-part.part) c.new-leaves.ensures.items
-    (subst (λ (ns : List Node). PartBuilt c.args.schemas.now c.args.plan.now ns c.build_at.new.nodes.items c.new-leaves.result.items c.build_at.new.leaves.items c.in_ok-part.part) c.new-nodes.ensures.items c.in_ok-part.ensures)) refl refl
+    (subst (λ (ls : List Leaf). PartBuilt c.args.schemas.now c.args.plan.now []
+    c.build_at.new.nodes.items ls c.build_at.new.leaves.items c.in_ok-part.part)
+    c.new-leaves.ensures.items
+    (subst (λ (ns : List Node). PartBuilt c.args.schemas.now c.args.plan.now ns
+    c.build_at.new.nodes.items c.new-leaves.result.items c.build_at.new.leaves.items
+    c.in_ok-part.part) c.new-nodes.ensures.items c.in_ok-part.ensures)) refl refl

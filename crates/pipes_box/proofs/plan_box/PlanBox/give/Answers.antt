@@ -1,4 +1,5 @@
-use Rattle.std.proofs.Common.{◌≡◌, ◌<◌, ◌∙◌, ◌++◌, ◌∷◌, [], List, length, get_or, set, ap, sym, subst, refl, append-nil}
+use Rattle.std.proofs.Common.{◌≡◌, ◌<◌, ◌∙◌, ◌++◌, ◌∷◌, [], List, length, get_or, set, ap, sym}
+use Rattle.std.proofs.Common.{subst, refl, append-nil}
 use Rattle.std.specs.Vec.{with_item}
 use Rattle.pipes_stream.specs.declared.message.Message.{Message}
 use Rattle.pipes_link.specs.declared.outlet.Outlet.{Outlet}
@@ -18,15 +19,25 @@ returns-in-Ok-clause-sound c =
     let p : PlanLeaf = c.index.result.now in
     let m : Node = c.index_mut.result.now in
     let out : Outlet Message = c.put.new.self in
-    let there : p.node < length items = subst (λ (x : PlanLeaf). x.node < length items) (sym c.index.ensures) (c.requires.sound.leaves c.args.leaf p c.requires.in_range) in
-    let read : (d : Node) → m ≡ get_or items p.node d = λ d. c.index_mut.ensures.value ∙ get-any items p.node m d there in
-    let new : PlanBox = record { nodes = with_item old.nodes p.node (with_outlet m out); top = old.top; leaves = old.leaves; failed = old.failed } in
+    let there : p.node < length items = subst (λ (x : PlanLeaf). x.node < length items)
+    (sym c.index.ensures) (c.requires.sound.leaves c.args.leaf p c.requires.in_range) in
+    let read : (d : Node) → m ≡ get_or items p.node d = λ d. c.index_mut.ensures.value
+    ∙ get-any items p.node m d there in
+    let new : PlanBox = record {
+      nodes = with_item old.nodes p.node (with_outlet m out);
+      top =
+          old.top;
+      leaves = old.leaves;
+      failed = old.failed;
+    } in
     let put : LeafPut old new p.node (c.args.message ∷ []) = record {
       out = out;
       there = there;
       nodes = λ d. ap (λ (n : Node). set items p.node (with_outlet n out)) (read d);
-      same_outlet = λ d. subst (λ (n : Node). SameOutlet n.outlet out) (read d) c.put.ensures.same_link;
-      puts = λ d. subst (λ (n : Node). sent out ≡ sent n.outlet ++ (c.args.message ∷ [])) (read d) (c.in-Ok.ensures.put);
+      same_outlet = λ d. subst (λ (n : Node). SameOutlet n.outlet out)
+          (read d) c.put.ensures.same_link;
+      puts = λ d. subst (λ (n : Node). sent out ≡ sent n.outlet ++ (c.args.message ∷ [])) (read d)
+          (c.in-Ok.ensures.put);
       top = refl;
       leaves = refl;
       failed = refl;
@@ -40,20 +51,32 @@ returns-in-Ok-clause-gave c =
     let p : PlanLeaf = c.index.result.now in
     let m : Node = c.index_mut.result.now in
     let out : Outlet Message = c.put.new.self in
-    let there : p.node < length items = subst (λ (x : PlanLeaf). x.node < length items) (sym c.index.ensures) (c.requires.sound.leaves c.args.leaf p c.requires.in_range) in
-    let read : (d : Node) → m ≡ get_or items p.node d = λ d. c.index_mut.ensures.value ∙ get-any items p.node m d there in
-    let new : PlanBox = record { nodes = with_item old.nodes p.node (with_outlet m out); top = old.top; leaves = old.leaves; failed = old.failed } in
+    let there : p.node < length items = subst (λ (x : PlanLeaf). x.node < length items)
+    (sym c.index.ensures) (c.requires.sound.leaves c.args.leaf p c.requires.in_range) in
+    let read : (d : Node) → m ≡ get_or items p.node d = λ d. c.index_mut.ensures.value
+    ∙ get-any items p.node m d there in
+    let new : PlanBox = record {
+      nodes = with_item old.nodes p.node (with_outlet m out);
+      top =
+          old.top;
+      leaves = old.leaves;
+      failed = old.failed;
+    } in
     let put : LeafPut old new p.node (c.args.message ∷ []) = record {
       out = out;
       there = there;
       nodes = λ d. ap (λ (n : Node). set items p.node (with_outlet n out)) (read d);
-      same_outlet = λ d. subst (λ (n : Node). SameOutlet n.outlet out) (read d) c.put.ensures.same_link;
-      puts = λ d. subst (λ (n : Node). sent out ≡ sent n.outlet ++ (c.args.message ∷ [])) (read d) (c.in-Ok.ensures.put);
+      same_outlet = λ d. subst (λ (n : Node). SameOutlet n.outlet out)
+          (read d) c.put.ensures.same_link;
+      puts = λ d. subst (λ (n : Node). sent out ≡ sent n.outlet ++ (c.args.message ∷ [])) (read d)
+          (c.in-Ok.ensures.put);
       top = refl;
       leaves = refl;
       failed = refl;
     } in
-    put-stands old new p.node (c.args.message ∷ []) put m c.requires.sound c.args.leaf p c.args.message c.requires.in_range (ap (λ (x : PlanLeaf). x.node) (sym c.index.ensures)) refl
+    put-stands old new p.node (c.args.message ∷ []) put m c.requires.sound c.args.leaf p
+    c.args.message c.requires.in_range (ap (λ (x : PlanLeaf). x.node) (sym c.index.ensures))
+    refl
 
 pub returns-in-Err-clause-sound : goal.returns-in-Err-clause-sound
 returns-in-Err-clause-sound c =
@@ -62,15 +85,25 @@ returns-in-Err-clause-sound c =
     let p : PlanLeaf = c.index.result.now in
     let m : Node = c.index_mut.result.now in
     let out : Outlet Message = c.put.new.self in
-    let there : p.node < length items = subst (λ (x : PlanLeaf). x.node < length items) (sym c.index.ensures) (c.requires.sound.leaves c.args.leaf p c.requires.in_range) in
-    let read : (d : Node) → m ≡ get_or items p.node d = λ d. c.index_mut.ensures.value ∙ get-any items p.node m d there in
-    let new : PlanBox = record { nodes = with_item old.nodes p.node (with_outlet m out); top = old.top; leaves = old.leaves; failed = old.failed } in
+    let there : p.node < length items = subst (λ (x : PlanLeaf). x.node < length items)
+    (sym c.index.ensures) (c.requires.sound.leaves c.args.leaf p c.requires.in_range) in
+    let read : (d : Node) → m ≡ get_or items p.node d = λ d. c.index_mut.ensures.value
+    ∙ get-any items p.node m d there in
+    let new : PlanBox = record {
+      nodes = with_item old.nodes p.node (with_outlet m out);
+      top =
+          old.top;
+      leaves = old.leaves;
+      failed = old.failed;
+    } in
     let put : LeafPut old new p.node ([]) = record {
       out = out;
       there = there;
       nodes = λ d. ap (λ (n : Node). set items p.node (with_outlet n out)) (read d);
-      same_outlet = λ d. subst (λ (n : Node). SameOutlet n.outlet out) (read d) c.put.ensures.same_link;
-      puts = λ d. subst (λ (n : Node). sent out ≡ sent n.outlet ++ ([])) (read d) (c.in-Err.ensures.full.1 ∙ sym (append-nil (sent m.outlet)));
+      same_outlet = λ d. subst (λ (n : Node). SameOutlet n.outlet out)
+          (read d) c.put.ensures.same_link;
+      puts = λ d. subst (λ (n : Node). sent out ≡ sent n.outlet ++ ([])) (read d)
+          (c.in-Err.ensures.full.1 ∙ sym (append-nil (sent m.outlet)));
       top = refl;
       leaves = refl;
       failed = refl;
@@ -84,15 +117,25 @@ returns-in-Err-clause-refused c =
     let p : PlanLeaf = c.index.result.now in
     let m : Node = c.index_mut.result.now in
     let out : Outlet Message = c.put.new.self in
-    let there : p.node < length items = subst (λ (x : PlanLeaf). x.node < length items) (sym c.index.ensures) (c.requires.sound.leaves c.args.leaf p c.requires.in_range) in
-    let read : (d : Node) → m ≡ get_or items p.node d = λ d. c.index_mut.ensures.value ∙ get-any items p.node m d there in
-    let new : PlanBox = record { nodes = with_item old.nodes p.node (with_outlet m out); top = old.top; leaves = old.leaves; failed = old.failed } in
+    let there : p.node < length items = subst (λ (x : PlanLeaf). x.node < length items)
+    (sym c.index.ensures) (c.requires.sound.leaves c.args.leaf p c.requires.in_range) in
+    let read : (d : Node) → m ≡ get_or items p.node d = λ d. c.index_mut.ensures.value
+    ∙ get-any items p.node m d there in
+    let new : PlanBox = record {
+      nodes = with_item old.nodes p.node (with_outlet m out);
+      top =
+          old.top;
+      leaves = old.leaves;
+      failed = old.failed;
+    } in
     let put : LeafPut old new p.node ([]) = record {
       out = out;
       there = there;
       nodes = λ d. ap (λ (n : Node). set items p.node (with_outlet n out)) (read d);
-      same_outlet = λ d. subst (λ (n : Node). SameOutlet n.outlet out) (read d) c.put.ensures.same_link;
-      puts = λ d. subst (λ (n : Node). sent out ≡ sent n.outlet ++ ([])) (read d) (c.in-Err.ensures.full.1 ∙ sym (append-nil (sent m.outlet)));
+      same_outlet = λ d. subst (λ (n : Node). SameOutlet n.outlet out)
+          (read d) c.put.ensures.same_link;
+      puts = λ d. subst (λ (n : Node). sent out ≡ sent n.outlet ++ ([])) (read d)
+          (c.in-Err.ensures.full.1 ∙ sym (append-nil (sent m.outlet)));
       top = refl;
       leaves = refl;
       failed = refl;

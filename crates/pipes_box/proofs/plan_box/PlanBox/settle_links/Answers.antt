@@ -11,15 +11,30 @@ pub returns-clause-stands : goal.returns-clause-stands
 returns-clause-stands c =
     let old : PlanBox = c.args.self.now in
     let ws : List Node = c.settle_all.new.nodes in
-    let settles : Settles old.nodes.items ws (length old.nodes.items) 0 = subst (λ (ns : List Node). Settles ns ws (length ns) 0) c.as_mut_slice.ensures.value c.settle_all.ensures in
-    let written : (with_items old.nodes ws).items ≡ ws = with_items_is old.nodes ws (settles.count ∙ sym old.nodes.ok.0) in
-    let new : PlanBox = record { nodes = with_items old.nodes ws; top = old.top; leaves = old.leaves; failed = old.failed } in
-    settled-stands old new c.requires (subst (λ (ns : List Node). Settles old.nodes.items ns (length old.nodes.items) 0) (sym written) settles) refl refl refl
+    let settles : Settles old.nodes.items ws (length old.nodes.items) 0 =
+    subst (λ (ns : List Node). Settles ns ws (length ns) 0) c.as_mut_slice.ensures.value
+    c.settle_all.ensures in
+    let written : (with_items old.nodes ws).items ≡ ws = with_items_is old.nodes ws (settles.count
+    ∙ sym old.nodes.ok.0) in
+    let new : PlanBox = record {
+      nodes = with_items old.nodes ws;
+      top = old.top;
+      leaves =
+          old.leaves;
+      failed = old.failed;
+    } in
+    settled-stands old new c.requires
+    (subst (λ (ns : List Node). Settles old.nodes.items ns (length old.nodes.items) 0)
+    (sym written) settles) refl refl refl
 
 pub returns-clause-links : goal.returns-clause-links
 returns-clause-links c =
     let old : PlanBox = c.args.self.now in
     let ws : List Node = c.settle_all.new.nodes in
-    let settles : Settles old.nodes.items ws (length old.nodes.items) 0 = subst (λ (ns : List Node). Settles ns ws (length ns) 0) c.as_mut_slice.ensures.value c.settle_all.ensures in
-    let written : (with_items old.nodes ws).items ≡ ws = with_items_is old.nodes ws (settles.count ∙ sym old.nodes.ok.0) in
-    subst (λ (ns : List Node). Settles old.nodes.items ns (length old.nodes.items) 0) (sym written) settles
+    let settles : Settles old.nodes.items ws (length old.nodes.items) 0 =
+    subst (λ (ns : List Node). Settles ns ws (length ns) 0) c.as_mut_slice.ensures.value
+    c.settle_all.ensures in
+    let written : (with_items old.nodes ws).items ≡ ws = with_items_is old.nodes ws (settles.count
+    ∙ sym old.nodes.ok.0) in
+    subst (λ (ns : List Node). Settles old.nodes.items ns (length old.nodes.items) 0) (sym written)
+    settles

@@ -1,4 +1,5 @@
-use Rattle.std.proofs.Common.{◌≡◌, ◌≤◌, ◌+◌, ◌-◌, ◌∙◌, ℕ, List, length, get_or, set, ap, subst, refl, arith}
+use Rattle.std.proofs.Common.{◌≡◌, ◌≤◌, ◌+◌, ◌-◌, ◌∙◌, ℕ, List, length, get_or, set, ap, subst}
+use Rattle.std.proofs.Common.{refl, arith}
 use Rattle.pipes_stream.specs.declared.message.Message.{Message}
 use Rattle.pipes_link.specs.declared.outlet.Outlet.{Outlet}
 use Rattle.pipes_link.specs.Ends.{sent, spare, SameOutlet}
@@ -18,15 +19,25 @@ returns-clause-sound c =
     let len : length c.as_slice.result.now ≡ length items = ap length c.as_slice.ensures.value in
     let root : ℕ = length c.as_slice.result.now - 1 in
     let is : root + 1 ≡ length items = omega (arith, len, c.requires.root_is) in
-    let new : PlanBox = record { nodes = with_item c.args.self.now.nodes root (with_outlet m out); top = c.settle.new.inlet; leaves = c.args.self.now.leaves; failed = c.args.self.now.failed } in
-    let read : (d : Node) → m ≡ get_or items root d = λ d. c.index_mut.ensures.value ∙ get-any items root m d (omega (arith, is)) in
+    let new : PlanBox = record {
+      nodes = with_item c.args.self.now.nodes root (with_outlet m out);
+      top = c.settle.new.inlet;
+      leaves = c.args.self.now.leaves;
+      failed =
+          c.args.self.now.failed;
+    } in
+    let read : (d : Node) → m ≡ get_or items root d = λ d. c.index_mut.ensures.value
+    ∙ get-any items root m d (omega (arith, is)) in
     top-sound c.args.self.now new out (record {
       root = root;
       root_is = is;
       nodes = λ d. ap (λ (n : Node). set items root (with_outlet n out)) (read d);
-      same_outlet = λ d. subst (λ (n : Node). SameOutlet n.outlet out) (read d) c.settle.ensures.same_outlet;
-      sent_same = λ d. subst (λ (n : Node). sent out ≡ sent n.outlet) (read d) c.settle.ensures.outlet.0;
-      spare_more = λ d. subst (λ (n : Node). spare n.outlet ≤ spare out) (read d) c.settle.ensures.outlet.1;
+      same_outlet = λ d. subst (λ (n : Node). SameOutlet n.outlet out)
+          (read d) c.settle.ensures.same_outlet;
+      sent_same = λ d. subst (λ (n : Node). sent out ≡ sent n.outlet)
+          (read d) c.settle.ensures.outlet.0;
+      spare_more = λ d. subst (λ (n : Node). spare n.outlet ≤ spare out)
+          (read d) c.settle.ensures.outlet.1;
       waits = c.settle.ensures.waits;
       ends = c.settle.ensures.ends;
       taken_same = c.settle.ensures.inlet.0;
@@ -42,15 +53,25 @@ returns-clause-stands c =
     let len : length c.as_slice.result.now ≡ length items = ap length c.as_slice.ensures.value in
     let root : ℕ = length c.as_slice.result.now - 1 in
     let is : root + 1 ≡ length items = omega (arith, len, c.requires.root_is) in
-    let new : PlanBox = record { nodes = with_item c.args.self.now.nodes root (with_outlet m out); top = c.settle.new.inlet; leaves = c.args.self.now.leaves; failed = c.args.self.now.failed } in
-    let read : (d : Node) → m ≡ get_or items root d = λ d. c.index_mut.ensures.value ∙ get-any items root m d (omega (arith, is)) in
+    let new : PlanBox = record {
+      nodes = with_item c.args.self.now.nodes root (with_outlet m out);
+      top = c.settle.new.inlet;
+      leaves = c.args.self.now.leaves;
+      failed =
+          c.args.self.now.failed;
+    } in
+    let read : (d : Node) → m ≡ get_or items root d = λ d. c.index_mut.ensures.value
+    ∙ get-any items root m d (omega (arith, is)) in
     top-stands c.args.self.now new out (record {
       root = root;
       root_is = is;
       nodes = λ d. ap (λ (n : Node). set items root (with_outlet n out)) (read d);
-      same_outlet = λ d. subst (λ (n : Node). SameOutlet n.outlet out) (read d) c.settle.ensures.same_outlet;
-      sent_same = λ d. subst (λ (n : Node). sent out ≡ sent n.outlet) (read d) c.settle.ensures.outlet.0;
-      spare_more = λ d. subst (λ (n : Node). spare n.outlet ≤ spare out) (read d) c.settle.ensures.outlet.1;
+      same_outlet = λ d. subst (λ (n : Node). SameOutlet n.outlet out)
+          (read d) c.settle.ensures.same_outlet;
+      sent_same = λ d. subst (λ (n : Node). sent out ≡ sent n.outlet)
+          (read d) c.settle.ensures.outlet.0;
+      spare_more = λ d. subst (λ (n : Node). spare n.outlet ≤ spare out)
+          (read d) c.settle.ensures.outlet.1;
       waits = c.settle.ensures.waits;
       ends = c.settle.ensures.ends;
       taken_same = c.settle.ensures.inlet.0;
@@ -66,15 +87,25 @@ returns-clause-looks c =
     let len : length c.as_slice.result.now ≡ length items = ap length c.as_slice.ensures.value in
     let root : ℕ = length c.as_slice.result.now - 1 in
     let is : root + 1 ≡ length items = omega (arith, len, c.requires.root_is) in
-    let new : PlanBox = record { nodes = with_item c.args.self.now.nodes root (with_outlet m out); top = c.settle.new.inlet; leaves = c.args.self.now.leaves; failed = c.args.self.now.failed } in
-    let read : (d : Node) → m ≡ get_or items root d = λ d. c.index_mut.ensures.value ∙ get-any items root m d (omega (arith, is)) in
+    let new : PlanBox = record {
+      nodes = with_item c.args.self.now.nodes root (with_outlet m out);
+      top = c.settle.new.inlet;
+      leaves = c.args.self.now.leaves;
+      failed =
+          c.args.self.now.failed;
+    } in
+    let read : (d : Node) → m ≡ get_or items root d = λ d. c.index_mut.ensures.value
+    ∙ get-any items root m d (omega (arith, is)) in
     top-looked c.args.self.now new out (record {
       root = root;
       root_is = is;
       nodes = λ d. ap (λ (n : Node). set items root (with_outlet n out)) (read d);
-      same_outlet = λ d. subst (λ (n : Node). SameOutlet n.outlet out) (read d) c.settle.ensures.same_outlet;
-      sent_same = λ d. subst (λ (n : Node). sent out ≡ sent n.outlet) (read d) c.settle.ensures.outlet.0;
-      spare_more = λ d. subst (λ (n : Node). spare n.outlet ≤ spare out) (read d) c.settle.ensures.outlet.1;
+      same_outlet = λ d. subst (λ (n : Node). SameOutlet n.outlet out)
+          (read d) c.settle.ensures.same_outlet;
+      sent_same = λ d. subst (λ (n : Node). sent out ≡ sent n.outlet)
+          (read d) c.settle.ensures.outlet.0;
+      spare_more = λ d. subst (λ (n : Node). spare n.outlet ≤ spare out)
+          (read d) c.settle.ensures.outlet.1;
       waits = c.settle.ensures.waits;
       ends = c.settle.ensures.ends;
       taken_same = c.settle.ensures.inlet.0;

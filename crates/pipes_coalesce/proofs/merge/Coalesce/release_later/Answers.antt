@@ -1,5 +1,6 @@
 use Rattle.std.proofs.Common.{rules, refl, ◌∙◌, sym}
-use Rattle.pipes_coalesce.proofs.Sending.{later-release, releases-then, releases-itself, due-now, due-blocked, due-gone}
+use Rattle.pipes_coalesce.proofs.Sending.{later-release, releases-then, releases-itself, due-now}
+use Rattle.pipes_coalesce.proofs.Sending.{due-blocked, due-gone}
 use Rattle.pipes_coalesce.proofs.merge.Coalesce.release_later.Goals as goal
 
 pub loop-elem-init : goal.loop-elem-init

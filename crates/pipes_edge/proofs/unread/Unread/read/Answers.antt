@@ -1,4 +1,5 @@
-use Rattle.std.proofs.Common.{◌≡◌, ◌∙◌, ◌-◌, List, ℕ, length, take, drop, arith, ap, sym, length-drop, length-take}
+use Rattle.std.proofs.Common.{◌≡◌, ◌∙◌, ◌-◌, List, ℕ, length, take, drop, arith, ap, sym}
+use Rattle.std.proofs.Common.{length-drop, length-take}
 use Rattle.std.proofs.lemmas.List.{take_all}
 use Rattle.pipes_edge.proofs.Copied.{drop-copied}
 use Rattle.pipes_edge.proofs.unread.Unread.read.Goals as goal
@@ -9,8 +10,14 @@ returns-clause-bytes c =
     let m = c.min-count.result in
     let xs = c.self.inside.bytes.items in
     let d = c.deref.result.now in
-    let front = c.copy_from_slice.new.self in
-    let whole : take (length d - p) (drop p d) ≡ drop p xs = take_all (length d - p) (drop p d) (omega (arith, length-drop p d)) ∙ ap (λ (l : List ℕ). drop p l) c.deref.ensures.value in
-    let moved : front ≡ take m (drop p xs) = c.copy_from_slice.ensures.after ∙ ap (λ (l : List ℕ). take m l) whole in
-    let len : length front ≡ m = omega (arith, c.copy_from_slice.ensures.len, length-take m c.args.buf.now) in
-    sym c.self.view_is ∙ drop-copied p m xs c.args.buf.now front moved len
+    let prefix = c.copy_from_slice.new.self in
+    let whole : take (length d - p) (drop p d) ≡ drop p xs = take_all (length d - p) (drop p d)
+    (omega (arith, length-drop p d)) ∙ ap (λ (l : List ℕ). drop p l) c.deref.ensures.value in
+    let moved : prefix ≡ take m (drop p xs) = c.copy_from_slice.ensures.after
+    ∙ ap (λ (l : List ℕ). take m l) whole in
+    let len : length prefix ≡ m = omega (
+      arith,
+      c.copy_from_slice.ensures.len,
+      length-take m c.args.buf.now,
+    ) in
+    sym c.self.view_is ∙ drop-copied p m xs c.args.buf.now prefix moved len

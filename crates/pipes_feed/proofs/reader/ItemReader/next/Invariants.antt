@@ -1,10 +1,11 @@
 use Rattle.std.proofs.Common.{◌≡◌, ◌≤◌, ◌-◌, None}
-use Rattle.pipes_feed.specs.Ahead.{ahead, KeepsItems, NoneWaits}
+use Rattle.pipes_feed.specs.Ahead.{arrivals_ahead, KeepsItems, NoneWaits}
 use Rattle.pipes_feed.proofs.reader.ItemReader.next.Given as goal
 
 abbrev pub invariant-lines : goal.invariant-lines
 invariant-lines g l = record {
-  same : KeepsItems (ahead l.fn.self (g.S.Source.left l.fn.src)) (ahead l.self (g.S.Source.left l.src));
+  same : KeepsItems (arrivals_ahead l.fn.self (g.S.Source.left l.fn.src))
+      (arrivals_ahead l.self (g.S.Source.left l.src));
   kinds : l.self.kinds ≡ l.fn.self.kinds;
   goes_on : l.self.ended ≡ None;
   began : l.fn.self.ended ≡ None;

@@ -3,4 +3,5 @@ use Rattle.pipes_flat.specs.Filters.{filter_takes}
 use Rattle.pipes_flat.proofs.filter.FilterOperator.take.Goals as goal
 
 pub returns-in-Ok-clause-takes : goal.returns-in-Ok-clause-takes
-returns-in-Ok-clause-takes c = filter_takes c.args.self.now _ c.args._port c.args.message _ _ refl c.requires c.if-self.false c.step.ensures.follows c.in-Ok.ensures.sends
+returns-in-Ok-clause-takes c = filter_takes c.args.self.now _ c.args._port c.args.message _ _ refl
+    c.requires c.if-self.false c.step.ensures.follows c.in-Ok.ensures.sends

@@ -9,7 +9,9 @@ pub returns-clause-task : goal.returns-clause-task
 returns-clause-task c = ap (λ (p : ExprsOver). map_task p.exprs p.schema) c.new-projection.ensures
 
 pub returns-clause-stands : goal.returns-clause-stands
-returns-clause-stands c = map_new _ c.args.exprs c.args.schema c.requires.schema (map_has_kinds c.args.exprs c.args.schema c.requires) c.new-projection.ensures c.new-watch.ensures refl
+returns-clause-stands c = map_new _ c.args.exprs c.args.schema c.requires.schema
+    (map_has_kinds c.args.exprs c.args.schema c.requires) c.new-projection.ensures
+    c.new-watch.ensures refl
 
 pub new-projection-requires-clause-width : goal.new-projection-requires-clause-width
 new-projection-requires-clause-width c = exprs_have_width c.args.exprs c.args.schema c.requires

@@ -7,4 +7,6 @@ use Rattle.pipes_flat.proofs.map.Map.sends_one_by_one.Goals as goal
 
 pub returns : goal.returns
 returns c = λ taken sent s.
-    s.each.elements_are ∙ made_one_by_one (changed c.args.self.now.projection.exprs) (map_task c.args.self.now.projection.exprs c.args.self.now.projection.schema) (λ row. refl) (elements (taken 0))
+    s.each.elements_are ∙ made_one_by_one (changed c.args.self.now.projection.exprs)
+    (map_task c.args.self.now.projection.exprs c.args.self.now.projection.schema) (λ row. refl)
+    (elements (taken 0))

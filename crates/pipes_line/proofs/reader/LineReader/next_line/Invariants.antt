@@ -6,10 +6,12 @@ use Rattle.pipes_line.proofs.reader.LineReader.next_line.Given as goal
 
 abbrev pub invariant-reads : goal.invariant-reads
 invariant-reads g l = record {
-  bytes : Keeps (bytes_ahead l.fn.self (g.S.Source.left l.fn.src)) (prepend_known l.self.line (bytes_ahead l.self (g.S.Source.left l.src)));
+  bytes : Keeps (bytes_ahead l.fn.self (g.S.Source.left l.fn.src))
+      (prepend_known l.self.line (bytes_ahead l.self (g.S.Source.left l.src)));
   within : has_no_feed l.self.line ≡ true;
   short : length l.self.line ≤ l.most;
-  waits : ((l.self.unread ≡ l.fn.self.unread) × (l.self.line ≡ [])) ⊎ (has_no_feed l.fn.self.unread ≡ true);
+  waits : ((l.self.unread ≡ l.fn.self.unread) × (l.self.line ≡ []))
+      ⊎ (has_no_feed l.fn.self.unread ≡ true);
   later : g.S.Source.faults l.fn.src ≤ g.S.Source.faults l.src;
   name : g.S.Source.name l.src ≡ g.S.Source.name l.fn.src;
   found_at : g.S.Source.found_at l.src ≡ g.S.Source.found_at l.fn.src;

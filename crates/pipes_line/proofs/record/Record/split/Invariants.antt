@@ -11,7 +11,8 @@ invariant-fields l = record {
   within : l.from ≤ length l.line;
   copied : l.self.is_copied ≡ false;
   known : next_record default_config state.StartRecord [] [] l.line
-      ≡ next_record default_config (state_at l.from) (map (bytes_in l.line) l.self.parts.items) [] (drop l.from l.line);
+      ≡ next_record default_config (state_at l.from) (map (bytes_in l.line) l.self.parts.items) []
+      (drop l.from l.line);
 }
 
 abbrev pub decreases-fields : goal.decreases-fields

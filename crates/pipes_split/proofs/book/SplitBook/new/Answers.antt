@@ -1,4 +1,5 @@
-use Rattle.std.proofs.Common.{◌≡◌, ◌+◌, ◌-◌, suc, [], ◌∷◌, map, reverse, replicate, rules, arith, ap, ◌∙◌, sym, subst}
+use Rattle.std.proofs.Common.{◌≡◌, ◌+◌, ◌-◌, suc, [], ◌∷◌, map, reverse, replicate, rules, arith}
+use Rattle.std.proofs.Common.{ap, ◌∙◌, sym, subst}
 use Rattle.std.proofs.lemmas.List.{reverse-append}
 use Rattle.pipes_split.specs.Views.{seat_view, blank, first_view}
 use Rattle.pipes_split.specs.Seats.{AreSeatsOf}

@@ -10,8 +10,10 @@ pub invariant_of-self : goal.invariant_of-self
 invariant_of-self c =
     elim c.match-insert.branch [
       | in-Ok w ↦
-          (let within : c.count_due-place.result ≤ length c.self.inside.waiting.items = search rules in
+          (let within : c.count_due-place.result ≤ length c.self.inside.waiting.items =
+          search rules in
           subst (λ (es : List Elem). StartsRise es) (sym w.in-Ok.ensures.items)
-          (rise-placed c.args.elem c.self.inside.waiting.items c.count_due-place.result c.self.invariant within (search rules) (search rules)))
+          (rise-placed c.args.elem c.self.inside.waiting.items c.count_due-place.result
+          c.self.invariant within (search rules) (search rules)))
       | in-Err w ↦ subst (λ (es : List Elem). StartsRise es) (search rules) c.self.invariant
     ]

@@ -1,9 +1,0 @@
-use Rattle.std.proofs.Common.{rules}
-use Rattle.pipes_coalesce.proofs.Settling.{takes-old}
-use Rattle.pipes_coalesce.proofs.merge.Coalesce.step_old.Goals as goal
-
-pub returns-clause-takes : goal.returns-clause-takes
-returns-clause-takes c =
-    takes-old c.args.self.now c.admit_old.new.self c.settle.new.self c.args.message
-    c.beat_now-told.result c.args.out.now.items c.settle.new.out.items
-    c.beat_now-told.ensures c.in_ok-admit_old.ensures c.in_ok-settle.ensures

@@ -1,5 +1,0 @@
-use Rattle.std.proofs.Common.{length}
-use Rattle.pipes_fault.proofs.piece.+write_spaced.Given as goal
-
-abbrev pub decreases-write_spaced : goal.decreases-write_spaced
-decreases-write_spaced g l = length l.pieces.now

@@ -1,5 +1,0 @@
-use Rattle.pipes_fault.proofs.Saying.{says}
-use Rattle.pipes_fault.proofs.say_parts.Goals as goal
-
-pub returns : goal.returns
-returns g c = says c.write_line.result _ _ _ _ _ c.write_line.ensures.ok c.write_line.ensures.front c.write_line.ensures.cause

@@ -1,9 +1,0 @@
-use Rattle.std.proofs.Common.{List, ℕ, [], ◌∷◌, codes, subst}
-use Rattle.std.specs.Fmt.{decimal}
-use Rattle.pipes_fault.specs.Fault.{told, Says}
-use Rattle.pipes_fault.proofs.say_text.Goals as goal
-
-pub returns : goal.returns
-returns g c =
-    let r = c.args.refusal.now in
-    subst (λ (why : List ℕ). Says (told (codes "query" ∷ decimal r.line ∷ decimal r.column ∷ why ∷ [])) (record { written_before = g.K.Sink.written c.args.err.now; written_now = g.K.Sink.written c.say_parts.new.err; faults_before = g.K.Sink.faults c.args.err.now; faults_now = g.K.Sink.faults c.say_parts.new.err })) c.text_why-why.ensures c.say_parts.ensures

@@ -1,0 +1,4 @@
+pub mod Aggregate
+pub mod Relations
+pub mod Tables
+pub mod Counted
