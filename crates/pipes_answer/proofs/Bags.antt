@@ -19,7 +19,8 @@ use Rattle.pipes_semantics.specs.Answer.{bags_at}
 use Rattle.pipes_error.specs.Fault.{Fault, Words, QueryText, QueryType, Unbuilt, Missing, ReadFile}
 use Rattle.pipes_error.specs.Fault.{ReadSource, Row, Limit, Write, Memory}
 use Rattle.pipes_answer.specs.Gives.{HasAnswerCause, Refuses}
-use Rattle.pipes_answer.specs.Whole.{◌>>=◌, source_items, whole_items}
+use Rattle.pipes_time.specs.Results.{◌>>=◌}
+use Rattle.pipes_answer.specs.Whole.{source_items, whole_items}
 
 -- the items of a first source and of the others
 abbrev joined : Result (List Item) Fault → Result (List (List Item)) Fault

@@ -13,8 +13,7 @@ abbrev pub put_all : List Item → Items → Items
 put_all items rest = record { list = items ++ rest.list; end = rest.end }
 
 -- The arrivals so far in order: those in their place for good, at or below the floor, and those
--- that
--- wait. The rows are the valid ones of the first.
+-- that wait. The rows are the valid ones of the first.
 pub record IsGathered (kinds : List Kind) (slack : ℕ) (arrivals : List Item) (reached : Reached)
     (waiting : List Item) (rows : Gathered) : Type 0 where
   pub placed : List Item
@@ -24,8 +23,7 @@ pub record IsGathered (kinds : List Kind) (slack : ℕ) (arrivals : List Item) (
   pub valid : HasValid placed rows
 
 -- Some arrivals were taken, and where they were known before the first, those that are ahead now
--- are
--- the rest.
+-- are the rest.
 pub record HasTaken (kinds : List Kind) (slack : ℕ) (before now : Option Items) (reached : Reached)
     (waiting : List Item) (rows : Gathered) : Type 0 where
   pub arrivals : List Item

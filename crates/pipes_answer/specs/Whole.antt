@@ -1,6 +1,7 @@
 -- The items of all sources, each read to its end, one source after another.
 use Rattle.std.specs.Prelude.{List, [], ◌∷◌, Result, Ok, Err}
 use Rattle.std.specs.Option.{ok_or}
+use Rattle.pipes_time.specs.Results.{◌>>=◌}
 use Rattle.pipes_edge.specs.Outside.{Names}
 use Rattle.pipes_window.specs.declared.item.Item.{Item}
 use Rattle.pipes_feed.specs.declared.reason.Reason.{Reason}
@@ -9,15 +10,8 @@ use Rattle.pipes_feed.specs.Items.{Items, items_of}
 use Rattle.pipes_query.specs.declared.query.SourceDecl.{SourceDecl}
 use Rattle.pipes_error.specs.Fault.{Fault, Missing, ReadFile, Row, Limit, Memory}
 
-infixl 10 ◌>>=◌
--- the first fault, or what is made of the value
-abbrev pub ◌>>=◌ : {A B : Type 0} → Result A Fault → (A → Result B Fault) → Result B Fault
-(Ok x) >>= next = next x
-(Err fault) >>= next = Err fault
-
 -- All items, where they end after the last line, and else the fault of the line at which they
--- stop. A failed read and want of
--- memory are no ends of a file's items.
+-- stop. A failed read and being out of memory are no ends of a file's items.
 abbrev pub by_end : SourceDecl → List Item → Reason → Result (List Item) Fault
 by_end s items reason.AtEnd = Ok items
 by_end s items (reason.Row line why) = Err (Row s.name line why)

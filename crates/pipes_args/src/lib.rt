@@ -38,9 +38,8 @@ pub enum Command<'w> {
 }
 
 /// The command, where the words are one: `run QUERY SCRIPT` with perhaps `--form stream` or `--form
-/// normal` after it, `at QUERY TIME`, or
-/// `check QUERY`. A positional word is not empty and begins with no dash; TIME is one or more
-/// digits, leading zeros allowed.
+/// normal` after it, `at QUERY TIME`, or `check QUERY`. A positional word is not empty and begins
+/// with no dash; TIME is one or more digits, leading zeros allowed.
 pub fn command_in(words: &[String]) -> Option<Command<'_>>
     ensures { option_map command_seen result ≡ command_of (map string_bytes words.now) }
 {

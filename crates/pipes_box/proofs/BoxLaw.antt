@@ -8,11 +8,13 @@ use Rattle.pipes_tuple.specs.declared.value.Kind.{Kind}
 use Rattle.pipes_tuple.specs.Kinds.{Fits}
 use Rattle.pipes_stream.specs.declared.Elem.{Elem}
 use Rattle.pipes_stream.specs.declared.message.Message.{Message}
+use Rattle.pipes_stream.specs.Lists.{start_of_list, run}
 use Rattle.pipes_stream.specs.Lawful.{Lists, no_messages}
 use Rattle.pipes_link.specs.declared.outlet.Outlet.{Outlet}
 use Rattle.pipes_link.specs.declared.inlet.Inlet.{Inlet}
 use Rattle.pipes_link.specs.Ends.{sent, taken, known}
 use Rattle.pipes_plan.specs.declared.plan.Plan.{Plan}
+use Rattle.pipes_plan.specs.Sizes.{plan_nodes}
 use Rattle.pipes_box.specs.declared.leaf.Leaf.{Leaf as PlanLeaf}
 use Rattle.pipes_box.specs.declared.node.Node.{Node}
 use Rattle.pipes_box.specs.declared.plan_box.PlanBox.{PlanBox}
@@ -25,6 +27,7 @@ use Rattle.pipes_box.specs.Parts.{IsNew, PartHolds, PartBuilt}
 use Rattle.pipes_box.specs.Boxes.{IsSound, BoxStands}
 use Rattle.pipes_box.proofs.Answering.{answers-prefix}
 use Rattle.pipes_box.proofs.Network.{network}
+use Rattle.pipes_box.proofs.Stood.{stands-holds}
 use Rattle.pipes_box.proofs.Built.{get-before, no-length}
 
 pub some-node : (ns : List Node) → 0 < length ns → Node
@@ -50,7 +53,7 @@ box-answers b schemas plan given got sound s =
       root-last shape 0,
     ) in
     let all : Answers shape 0 given (sent (get_or b.nodes.items (root_of shape 0) d).outlet) =
-    network b.nodes.items d sound.linked (λ k h. s.stands k d h) shape 0 0 given
+    network b.nodes.items d sound.linked (λ k h. (s.holds k d h).stood) shape 0 0 given
     (omega (arith, s.count)) s.proper (s.wired d) (s.gave d) s.fits in
     let top = subst (λ (k : ℕ). EndsHold (get_or b.nodes.items k d).outlet b.top) root
     (sound.top d) in
@@ -109,15 +112,18 @@ none-new = record {
     counted = λ k d h. absurd (omega (arith, h));
     earlier =
         λ k d i e h l. absurd (omega (arith, h));
+    deeper = λ k d i e h l. absurd (omega (arith, h));
     links = λ k d i e h l. absurd (omega (arith, h));
   };
   stands = λ k d h. absurd (omega (arith, h));
   nothing_sent = λ k d h. absurd (omega (arith, h));
+  shallow = λ k d h. absurd (omega (arith, h));
+  going = λ k d h. absurd (omega (arith, h));
 }
 
 module _ (schemas : List (List Kind)) (plan : Plan) (box : PlanBox) (part : Part)
-    (b : PartBuilt schemas plan [] box.nodes.items [] box.leaves.items part)
-    (top : box.top ≡ part.inlet) where
+    (b : PartBuilt schemas plan 0 0 [] box.nodes.items [] box.leaves.items part)
+    (top : box.top ≡ part.inlet) (ended : box.ended ≡ false) where
   -- a box that was built
   pub built-sound : IsSound box
   built-sound =
@@ -138,17 +144,22 @@ module _ (schemas : List (List Kind)) (plan : Plan) (box : PlanBox) (part : Part
         leaves = λ k d h. subst (λ (ls : List PlanLeaf). k < length ls
             → (get_or ls k d).node < length box.nodes.items) (sym b.leaves_are)
             (λ l. omega (arith, leaves-in (shape_of schemas plan) 0 k d l, b.count)) h;
+        shallow = new.shallow;
+        going = λ e. new.going;
+        ended_is = ended ∙ ap (λ (xs : List Message). (run start_of_list xs).ended)
+            (sym (ap (λ (i : Inlet Message). taken i) top ∙ b.holds.nothing_taken));
       }
 
-  pub built-stands : box.failed ≡ false → BoxStands box schemas plan no_messages []
-  built-stands going =
+  pub built-stands : plan_nodes plan ≤ 255 → BoxStands box schemas plan no_messages []
+  built-stands small =
       let new = b.stays_new none-new in
       record {
-        going = going;
         count = omega (arith, b.count);
+        few = omega (arith, b.size, small);
         wired = b.holds.wired;
+        numbered = b.holds.numbered;
         proper = b.holds.proper;
-        stands = new.stands;
+        holds = λ k d h. stands-holds (get_or box.nodes.items k d) (new.stands k d h);
         leaves_are = b.leaves_are;
         gave = λ d. gave-none box.nodes.items d (shape_of schemas plan) 0 0 (omega (arith, b.count))
             (λ k h. new.nothing_sent k d h);

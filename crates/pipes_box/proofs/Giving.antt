@@ -1,31 +1,34 @@
 -- What a message given at a leaf leaves of a box.
 use Rattle.std.proofs.Common.{◌≡◌, ℕ, zero, suc, ◌+◌, ◌-◌, ◌≤◌, ◌<◌, Bool, cond, eqb, List, [], ◌∷◌}
+use Rattle.std.proofs.Common.{Option}
+use Rattle.std.proofs.Common.{false}
 use Rattle.std.proofs.Common.{◌++◌, length, get_or, set, None, refl, sym, ◌∙◌, ap, subst, arith}
 use Rattle.std.proofs.Common.{append_assoc, append-nil, length-append, length-set, eq-eqb, inl, inr}
 use Rattle.std.proofs.lemmas.Bool.{cases_lt, ne_eqb}
 use Rattle.std.proofs.lemmas.List.{get_or-set_same, get_or-set_other}
 use Rattle.pipes_tuple.specs.declared.value.Kind.{Kind}
 use Rattle.pipes_stream.specs.declared.message.Message.{Message}
-use Rattle.pipes_stream.specs.Lawful.{Lists, with_message}
+use Rattle.pipes_stream.specs.Lawful.{Lists, with_message, Task}
 use Rattle.pipes_link.specs.declared.outlet.Outlet.{Outlet}
-use Rattle.pipes_link.specs.Ends.{sent, taken, SameOutlet}
+use Rattle.pipes_link.specs.Ends.{sent, taken, spare, SameOutlet}
 use Rattle.pipes_link.proofs.Keeping.{same_outlet_self}
 use Rattle.pipes_plan.specs.declared.plan.Plan.{Plan}
 use Rattle.pipes_box.specs.declared.leaf.Leaf.{Leaf as PlanLeaf}
 use Rattle.pipes_box.specs.declared.node.Node.{Node}
 use Rattle.pipes_box.specs.declared.plan_box.PlanBox.{PlanBox}
-use Rattle.pipes_box.specs.Nodes.{IsCounted, NodeStands, NodeMoves, EmitsIn, task_in}
+use Rattle.pipes_box.specs.Nodes.{IsCounted, NodeStands, NodeHolds, NodeMoves, EmitsIn, PutOf}
+use Rattle.pipes_box.specs.Nodes.{task_in}
 use Rattle.pipes_box.specs.Shapes.{Shape, Leaf, One, Two, shape_of, node_count, leaf_count}
-use Rattle.pipes_box.specs.Shapes.{GivenFits}
+use Rattle.pipes_box.specs.Shapes.{GivenFits, sources_of}
 use Rattle.pipes_box.specs.Networks.{IsLinked, IsWired, LeavesGave, leaves_of}
-use Rattle.pipes_box.specs.Boxes.{IsSound, BoxStands}
+use Rattle.pipes_box.specs.Boxes.{IsSound, BoxStands, HasPlace}
 use Rattle.pipes_box.proofs.NodeSteps.{place, get-any, node_moves-self, moves-puts, with-same}
 use Rattle.pipes_box.proofs.NodeSteps.{with-other}
 use Rattle.pipes_box.proofs.Looks.{with_outlet}
 use Rattle.pipes_box.proofs.Built.{get-before}
 use Rattle.pipes_box.proofs.BoxLaw.{leaves-in}
-use Rattle.pipes_box.proofs.Rounds.{NodeKeeps, moves-keeps, wired-kept, linked-moved, Renews}
-use Rattle.pipes_box.proofs.Rounds.{renews-sound, renews-stands, no-task}
+use Rattle.pipes_box.proofs.Rounds.{NodeKeeps, moves-keeps, wired-kept, numbered-kept}
+use Rattle.pipes_box.proofs.Rounds.{linked-moved, Renews, renews-sound, renews-stands, no-task}
 
 pub leaves-count : (s : Shape) (i : ℕ) → length (leaves_of s i) ≡ leaf_count s
 leaves-count (Leaf source kinds) i = refl
@@ -38,9 +41,9 @@ leaves-count (Two task a b) i = omega (
   leaves-count b (i + node_count a),
 )
 
-get-later : (xs ys : List PlanLeaf) (j : ℕ) (d : PlanLeaf) → length xs ≤ j
+pub get-later : {X : Type 0} (xs ys : List X) (j : ℕ) (d : X) → length xs ≤ j
     → get_or (xs ++ ys) j d ≡ get_or ys (j - length xs) d
-get-later [] ys j d h = let e : j ≡ j - length {A = PlanLeaf} [] =
+get-later {X} [] ys j d h = let e : j ≡ j - length {A = X} [] =
     omega arith in ap (λ (k : ℕ). get_or ys k d) e
 get-later (x ∷ xs) ys zero d h = absurd (omega (arith, h))
 get-later (x ∷ xs) ys (suc j) d h =
@@ -67,6 +70,48 @@ leaves-from (Two task a b) i j d h =
                 (omega (arith, l, h, leaves-count a i)),
           ))
     ]
+
+sources-count : (s : Shape) → length (sources_of s) ≡ leaf_count s
+sources-count (Leaf source kinds) = refl
+sources-count (One task a) = sources-count a
+sources-count (Two task a b) = omega (
+  arith,
+  length-append (sources_of a) (sources_of b),
+  sources-count a,
+  sources-count b,
+)
+
+-- a leaf has its source's number
+pub source-at : (s : Shape) (i j : ℕ) (d : PlanLeaf) (x : ℕ) → j < leaf_count s
+    → (get_or (leaves_of s i) j d).source ≡ get_or (sources_of s) j x
+source-at (Leaf source kinds) i zero d x h = refl
+source-at (Leaf source kinds) i (suc j) d x h = absurd (omega (arith, h))
+source-at (One task a) i j d x h = source-at a i j d x h
+source-at (Two task a b) i j d x h =
+    elim (cases_lt j (leaf_count a)) [
+      | inl l ↦
+          ap (λ (y : PlanLeaf). y.source)
+          (get-before (leaves_of a i) (leaves_of b (i + node_count a)) j d
+          (omega (arith, l, leaves-count a i)))
+          ∙ source-at a i j d x l
+          ∙ sym (get-before (sources_of a) (sources_of b) j x (omega (arith, l, sources-count a)))
+      | inr l ↦
+          (let same : j - length (leaves_of a i) ≡ j - length (sources_of a) =
+          omega (arith, leaves-count a i, sources-count a) in
+          ap (λ (y : PlanLeaf). y.source)
+          (get-later (leaves_of a i) (leaves_of b (i + node_count a)) j d
+          (omega (arith, l, leaves-count a i)))
+          ∙ source-at b (i + node_count a) (j - length (leaves_of a i)) d x
+          (omega (arith, l, h, leaves-count a i))
+          ∙ ap (λ (k : ℕ). get_or (sources_of b) k x) same
+          ∙ sym (get-later (sources_of a) (sources_of b) j x (omega (arith, l, sources-count a))))
+    ]
+
+-- there are no more leaves than nodes
+pub leaves-few : (s : Shape) → leaf_count s ≤ node_count s
+leaves-few (Leaf source kinds) = omega arith
+leaves-few (One task a) = omega (arith, leaves-few a)
+leaves-few (Two task a b) = omega (arith, leaves-few a, leaves-few b)
 
 -- a leaf's node is a source
 leaf-source : (node : ℕ → Node) (s : Shape) (i j : ℕ) (d : PlanLeaf) → j < leaf_count s
@@ -155,6 +200,7 @@ pub record LeafPut (old new : PlanBox) (spot : ℕ) (more : List Message) : Type
   pub puts : (d : Node) → sent out ≡ sent (get_or old.nodes.items spot d).outlet ++ more
   pub top : new.top ≡ old.top
   pub leaves : new.leaves ≡ old.leaves
+  pub ended : new.ended ≡ old.ended
   pub failed : new.failed ≡ old.failed
 
 module _ (old new : PlanBox) (spot : ℕ) (more : List Message) (t : LeafPut old new spot more)
@@ -197,19 +243,23 @@ module _ (old new : PlanBox) (spot : ℕ) (more : List Message) (t : LeafPut old
   put-counted = put-each (λ a b. IsCounted a → IsCounted b) (λ n c. c)
       (λ d c. record { count = c.count; few = c.few })
 
-  put-renews : IsLinked old.nodes.items → Renews old new
-  put-renews linked = record {
+  put-renews : IsSound old → Renews old new
+  put-renews sound = record {
     count = put-count;
     linked = linked-moved old.nodes.items new.nodes.items put-count
-        (λ k d h. (put-counted k d (linked.counted k d h), put-moves k d)) linked;
+        (λ k d h. (put-counted k d (sound.linked.counted k d h), put-moves k d)) sound.linked;
     top = t.top;
     leaves = ap (λ v. v.items) t.leaves;
+    ended = t.ended;
+    going = λ e k d h. put-each (λ x y. x.failed ≡ false → y.failed ≡ false) (λ n g. g) (λ z g. g)
+        k d (sound.going (sym t.failed ∙ e) k d h);
+    depths = λ k d h. (put-moves k d).depth;
     outlets = λ k d h. (put-moves k d).same_link;
     puts = λ k d h. (put-moves k d).puts;
   }
 
   pub put-sound : IsSound old → IsSound new
-  put-sound s = renews-sound old new (put-renews s.linked) s
+  put-sound s = renews-sound old new (put-renews s) s
 
   stands-source : (n : Node) → task_in n.operator ≡ None → NodeStands n
       → NodeStands (with_outlet n t.out)
@@ -222,6 +272,18 @@ module _ (old new : PlanBox) (spot : ℕ) (more : List Message) (t : LeafPut old
         emits = subst (λ o. EmitsIn o s.passed (sent t.out) n.pending.items) (sym none)
             (subst (λ o. EmitsIn o s.passed (sent n.outlet) n.pending.items) none s.emits);
       }
+
+  holds-source : (n : Node) → task_in n.operator ≡ None → NodeHolds n
+      → NodeHolds (with_outlet n t.out)
+  holds-source n source h = record {
+    stood = record {
+      passed = h.stood.passed;
+      ports = h.stood.ports;
+      kinds = h.stood.kinds;
+      puts = subst (λ (o : Option Task). PutOf o h.stood.passed (sent t.out)) (sym source) tt;
+    };
+    stands = λ going. stands-source n source (h.stands going);
+  }
 
   -- the message was given
   pub put-stands : IsSound old → (leaf : ℕ) (d1 : PlanLeaf) (m : Message)
@@ -245,23 +307,28 @@ module _ (old new : PlanBox) (spot : ℕ) (more : List Message) (t : LeafPut old
       λ d. subst (λ (z : ℕ). task_in (get_or old.nodes.items z d).operator ≡ None) at-spot
       (leaf-source (λ k. get_or old.nodes.items k d) shape 0 leaf d1 small (b.wired d)) in
       record {
-        going = t.failed ∙ b.going;
         count = put-count ∙ b.count;
+        few = b.few;
         wired = λ d.
             wired-kept (λ k. get_or old.nodes.items k d) (λ k. get_or new.nodes.items k d)
             (length old.nodes.items) (λ k h. sound.linked.counted k d h)
             (λ k h. moves-keeps (get_or old.nodes.items k d) (get_or new.nodes.items k d)
             (put-moves k d)) shape 0 size b.proper (b.wired d);
+        numbered = λ d.
+            numbered-kept (λ k. get_or old.nodes.items k d) (λ k. get_or new.nodes.items k d)
+            (length old.nodes.items) (λ k h. sound.linked.counted k d h)
+            (λ k h. moves-keeps (get_or old.nodes.items k d) (get_or new.nodes.items k d)
+            (put-moves k d)) shape 0 0 0 size (b.numbered d);
         proper = b.proper;
-        stands = λ k d h.
+        holds = λ k d h.
             let there : k < length old.nodes.items = omega (arith, h, put-count) in
             elim (place k spot) [
               | inl x ↦
                   subst (λ (z : ℕ). z < length old.nodes.items
-                  → NodeStands (get_or new.nodes.items z d)) (sym x)
-                  (λ l. subst NodeStands (sym (put-here d)) (stands-source
-                  (get_or old.nodes.items spot d) (source d) (b.stands spot d l))) there
-              | inr x ↦ subst NodeStands (sym (put-other k d x)) (b.stands k d there)
+                  → NodeHolds (get_or new.nodes.items z d)) (sym x)
+                  (λ l. subst NodeHolds (sym (put-here d)) (holds-source
+                  (get_or old.nodes.items spot d) (source d) (b.holds spot d l))) there
+              | inr x ↦ subst NodeHolds (sym (put-other k d x)) (b.holds k d there)
             ];
         leaves_are = ap (λ v. v.items) t.leaves ∙ b.leaves_are;
         gave = λ d.
@@ -274,6 +341,20 @@ module _ (old new : PlanBox) (spot : ℕ) (more : List Message) (t : LeafPut old
         got_is = b.got_is ∙ sym (ap (λ i. taken i) t.top);
       }
 
+  -- no place was free for it
+  pub put-full : (leaf : ℕ) (d1 : PlanLeaf) → (get_or old.leaves.items leaf d1).node ≡ spot
+      → spare t.out ≡ 0 → HasPlace new leaf → ⊥
+  put-full leaf d1 spot-is none h =
+      let at : (get_or new.leaves.items leaf d1).node ≡ spot =
+      ap (λ v. (get_or v.items leaf d1).node) t.leaves ∙ spot-is in
+      omega (
+        arith,
+        h d1 e0,
+        none,
+        ap (λ (k : ℕ). spare (get_or new.nodes.items k e0).outlet) at,
+        ap (λ (n : Node). spare n.outlet) (put-here e0),
+      )
+
   stands-quiet : (n : Node) → sent t.out ≡ sent n.outlet → NodeStands n
       → NodeStands (with_outlet n t.out)
   stands-quiet n same s = record {
@@ -285,6 +366,19 @@ module _ (old new : PlanBox) (spot : ℕ) (more : List Message) (t : LeafPut old
         (sym same) s.emits;
   }
 
+  holds-quiet : (n : Node) → sent t.out ≡ sent n.outlet → NodeHolds n
+      → NodeHolds (with_outlet n t.out)
+  holds-quiet n same h = record {
+    stood = record {
+      passed = h.stood.passed;
+      ports = h.stood.ports;
+      kinds = h.stood.kinds;
+      puts = subst (λ (xs : List Message). PutOf (task_in n.operator) h.stood.passed xs) (sym same)
+          h.stood.puts;
+    };
+    stands = λ going. stands-quiet n same (h.stands going);
+  }
+
   -- nothing was put
   pub put-stays : IsSound old → more ≡ [] → (schemas : List (List Kind)) (plan : Plan)
       (given : Lists) (got : List Message) → BoxStands old schemas plan given got
@@ -293,10 +387,10 @@ module _ (old new : PlanBox) (spot : ℕ) (more : List Message) (t : LeafPut old
       let same : (d : Node) → sent t.out ≡ sent (get_or old.nodes.items spot d).outlet =
       λ d. t.puts d ∙ ap (λ (xs : List Message). sent (get_or old.nodes.items spot d).outlet
       ++ xs) none ∙ append-nil (sent (get_or old.nodes.items spot d).outlet) in
-      renews-stands old new (put-renews sound.linked) sound.linked
+      renews-stands old new (put-renews sound) sound.linked
       (λ k d h. moves-keeps (get_or old.nodes.items k d) (get_or new.nodes.items k d)
       (put-moves k d))
-      (λ k d h. put-each (λ x y. NodeStands x → NodeStands y) (λ n s. s)
-      (λ e. stands-quiet (get_or old.nodes.items spot e) (same e)) k d)
+      (λ k d h. put-each (λ x y. NodeHolds x → NodeHolds y) (λ n s. s)
+      (λ e. holds-quiet (get_or old.nodes.items spot e) (same e)) k d)
       (λ k d h n x. put-each (λ a b. sent b.outlet ≡ sent a.outlet) (λ n. refl) same k d)
-      (t.failed ∙ b.going) schemas plan given got b
+      schemas plan given got b

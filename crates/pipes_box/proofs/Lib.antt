@@ -3,6 +3,7 @@ pub mod Merges
 pub mod Passed
 pub mod Emitting
 pub mod NodeSteps
+pub mod Stood
 pub mod Answering
 pub mod Network
 pub mod Prompting
@@ -10,10 +11,14 @@ pub mod Pieces
 pub mod Looks
 pub mod Built
 pub mod Plans
+pub mod PerKind
 pub mod Meanings
 pub mod BoxLaw
 pub mod Totals
 pub mod Rounds
 pub mod Stillness
 pub mod Moving
+pub mod Falls
+pub mod Lowering
+pub mod WorkedOff
 pub mod Giving

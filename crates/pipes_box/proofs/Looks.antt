@@ -15,7 +15,7 @@ use Rattle.pipes_box.specs.declared.port.Port.{Port}
 use Rattle.pipes_box.specs.declared.node.Node.{Node}
 use Rattle.pipes_box.specs.Nodes.{IsCounted, PortLooks, NodeLooks, NodeMoves, PortMoves, NodeTurned}
 use Rattle.pipes_box.specs.Nodes.{task_in, ports_of}
-use Rattle.pipes_box.specs.Networks.{LinkHolds, IsLinked, SettledLink, PortSettled, Settles}
+use Rattle.pipes_box.specs.Networks.{LinkHolds, IsLinked, SettledLink, PortSettled, SettlesPorts}
 use Rattle.pipes_box.proofs.NodeSteps.{place, get-any}
 use Rattle.pipes_box.proofs.Pieces.{both-count, both-first, both-second, both-other, each-place}
 
@@ -29,6 +29,7 @@ with_outlet n out = record {
   outlet = out;
   pending = n.pending;
   fresh = n.fresh;
+  took = n.took;
   moved = n.moved;
   failed =
       n.failed;
@@ -44,6 +45,7 @@ with_port n i q = record {
   outlet = n.outlet;
   pending = n.pending;
   fresh = n.fresh;
+  took = n.took;
   moved = n.moved;
   failed = n.failed;
 }
@@ -240,6 +242,32 @@ looks-counted a b l c = record {
   few = omega (arith, c.few, l.count);
 }
 
+-- a child stays one deeper
+pub deeper-kept : (old new : List Node) → length new ≡ length old
+    → ((k : ℕ) (d : Node) → k < length old → (get_or new k d).depth ≡ (get_or old k d).depth)
+    → ((k : ℕ) (d : Node) → k < length old
+    → length (get_or new k d).ports.items ≡ length (get_or old k d).ports.items)
+    → ((k : ℕ) (d : Node) (i : ℕ) (e : Port) → k < length old
+    → i < length (get_or old k d).ports.items
+    → (get_or (get_or new k d).ports.items i e).child
+    ≡ (get_or (get_or old k d).ports.items i e).child)
+    → IsLinked old → (k : ℕ) (d : Node) (i : ℕ) (e : Port) → k < length new
+    → i < length (get_or new k d).ports.items
+    → (get_or new (get_or (get_or new k d).ports.items i e).child d).depth
+    ≡ (get_or new k d).depth + 1
+deeper-kept old new count depths ports children linked k d i e h l =
+    let small : k < length old = omega (arith, h, count) in
+    let there : i < length (get_or old k d).ports.items = omega (arith, l, ports k d small) in
+    let c : ℕ = (get_or (get_or old k d).ports.items i e).child in
+    let below : c < length old = omega (arith, linked.earlier k d i e small there, small) in
+    omega (
+      arith,
+      ap (λ (z : ℕ). (get_or new z d).depth) (children k d i e small there),
+      depths c d below,
+      depths k d small,
+      linked.deeper k d i e small there,
+    )
+
 -- one more port was settled
 module _ (old new : List Node) (parent port : ℕ) (there : parent < length old)
     (linked : IsLinked old) (s : PortSettled old new parent port) where
@@ -300,6 +328,9 @@ module _ (old new : List Node) (parent port : ℕ) (there : parent < length old)
         (linked.counted k d (small k h));
     earlier = λ k d i e h l. subst (λ (c : ℕ). c < k) (sym (child-same k d i e h l))
         (linked.earlier k d i e (small k h) (port-small k d i h l));
+    deeper = deeper-kept old new s.count (λ k d h. (s.looks k d h).depth)
+        (λ k d h. (s.looks k d h).count)
+        (λ k d i e h l. ((s.looks k d h).ports i e l).child) linked;
     links = λ k d i e h l.
         subst (λ (c : ℕ). LinkHolds (get_or new c d).outlet (get_or (get_or new k d).ports.items i
         e)) (sym (child-same k d i e h l))
@@ -322,8 +353,8 @@ module _ (old new : List Node) (parent port : ℕ) (there : parent < length old)
 
 -- the ports before this one are settled, and this one
 pub settles-next : (old mid new : List Node) (parent port : ℕ) → parent < length mid
-    → Settles old mid parent port → PortSettled mid new parent port
-    → Settles old new parent (port + 1)
+    → SettlesPorts old mid parent port → PortSettled mid new parent port
+    → SettlesPorts old new parent (port + 1)
 settles-next old mid new parent port there done s = record {
   count = s.count ∙ done.count;
   looks = λ k d h. node_looks-then (get_or old k d) (get_or mid k d) (get_or new k d)
@@ -366,8 +397,9 @@ settles-next old mid new parent port there done s = record {
 
 -- all ports of a node are settled
 pub settles-node : (old new : List Node) (parent port : ℕ) →
-    ((d : Node) → length (get_or new parent d).ports.items ≤ port) → Settles old new parent port
-    → Settles old new (parent + 1) 0
+    ((d : Node) → length (get_or new parent d).ports.items ≤ port)
+    → SettlesPorts old new parent port
+    → SettlesPorts old new (parent + 1) 0
 settles-node old new parent port all s = record {
   count = s.count;
   looks = s.looks;
@@ -388,7 +420,7 @@ settles-node old new parent port all s = record {
       (get_or new parent d).ports.items =
       ap (λ (z : ℕ). length (get_or new z d).ports.items) x in omega (arith, same, l, h)
 
-pub settles_none : (ns : List Node) → IsLinked ns → Settles ns ns 0 0
+pub settles_none : (ns : List Node) → IsLinked ns → SettlesPorts ns ns 0 0
 settles_none ns linked = record {
   count = refl;
   looks = λ k d h. node_looks-self (get_or ns k d);

@@ -22,7 +22,8 @@ use Rattle.pipes_plan.proofs.PlanEquations.{alg-Source, alg-Filter, alg-Map, alg
 use Rattle.pipes_plan.proofs.PlanInduction.{PlanCases, induct_plan}
 use Rattle.pipes_box.specs.Shapes.{Shape, shape_of, leaf_count, is_built, meaning_of, AtSources}
 use Rattle.pipes_box.specs.Shapes.{Answers, FollowsPlan}
-use Rattle.pipes_box.proofs.Plans.{shape-Source, shape-Filter, shape-Map, shape-Union}
+use Rattle.pipes_box.proofs.Plans.{shape-Source}
+use Rattle.pipes_box.proofs.PerKind.{shape-Filter, shape-Map, shape-Union}
 
 built-Filter : (p : Expr) (a : Plan) → is_built (Filter p a) ≡ is_built a
 built-Filter p a = search (rules, the_lemmas)

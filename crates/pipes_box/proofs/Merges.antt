@@ -8,7 +8,7 @@ use Rattle.pipes_stream.specs.Progress.{Progress}
 use Rattle.pipes_stream.specs.Lists.{after, run, start_of_list, ValidFrom, Valid, beat}
 use Rattle.pipes_stream.proofs.Messages.{run-append, run-push, valid-prefix, valid-suffix}
 use Rattle.pipes_box.specs.Says.{SaysFrom, Says}
-use Rattle.pipes_box.specs.Merging.{brought, Merged, MergedAll}
+use Rattle.pipes_box.specs.Merging.{brought, MergedOne, MergedAll}
 use Rattle.pipes_box.proofs.Saying.{says-self, says-then, says-more, says-after}
 
 -- a Beat says nothing more before a message that may follow it
@@ -49,7 +49,7 @@ after-brought p (message.Beat at) = refl
 after-brought p message.End = refl
 
 pub merged-push : (old : List Message) (l : ℕ) (m : Message) (now : List Message) → now ≡ old
-    ++ m ∷ [] → Merged old l m now (brought m)
+    ++ m ∷ [] → MergedOne old l m now (brought m)
 merged-push old l m now e p h v =
     subst (λ (x : List Message). SaysFrom p (old ++ m ∷ []) x × ((run p x).beat ≡ brought m))
     (sym e) (
@@ -59,7 +59,8 @@ merged-push old l m now e p h v =
     )
 
 merged-replaced : (old before : List Message) (at l : ℕ) (m : Message) (now : List Message)
-    → old ≡ before ++ message.Beat at ∷ [] → now ≡ before ++ m ∷ [] → Merged old l m now (brought m)
+    → old ≡ before ++ message.Beat at ∷ [] → now ≡ before ++ m ∷ []
+    → MergedOne old l m now (brought m)
 merged-replaced old before at l m now e f p h v =
     let joined : old ++ m ∷ [] ≡ before ++ message.Beat at ∷ m ∷ [] =
     ap (λ (x : List Message). x ++ m ∷ []) e ∙ append_assoc before (message.Beat at ∷ [])
@@ -76,7 +77,7 @@ merged-replaced old before at l m now e f p h v =
     )
 
 pub merged-needless : (old : List Message) (at l : ℕ) (now : List Message) → at ≤ l → now ≡ old
-    → Merged old l (message.Beat at) now l
+    → MergedOne old l (message.Beat at) now l
 merged-needless old at l now low f p h v =
     let s : SaysFrom p (old ++ message.Beat at ∷ []) (old ++ []) =
     says-after p old (message.Beat at ∷ []) [] (valid-prefix p old (message.Beat at ∷ []) v)
@@ -99,7 +100,7 @@ at-end (z ∷ w ∷ xs) (suc n) x y h e =
 
 pub merged-set : (old : List Message) (n at l : ℕ) (x m : Message) → length old ≡ n → 0 < n
     → x ≡ slice_index_or old (n - 1) x → x ≡ message.Beat at
-    → Merged old l m (slice_set old (n - 1) m) (brought m)
+    → MergedOne old l m (slice_set old (n - 1) m) (brought m)
 merged-set old n at l x m h k e b =
     let r = at-end old (n - 1) x m (omega arith) e in
     merged-replaced old r.0 at l m (slice_set old (n - 1) m)
@@ -120,7 +121,7 @@ merged-none old l p h v = (
 )
 
 pub merged-next : (old : List Message) (l : ℕ) (more : List Message) (m : Message)
-    (mid now : List Message) (k next : ℕ) → MergedAll old l more mid k → Merged mid k m now next
+    (mid now : List Message) (k next : ℕ) → MergedAll old l more mid k → MergedOne mid k m now next
     → MergedAll old l (more ++ m ∷ []) now next
 merged-next old l more m mid now k next a b p h v =
     let joined : old ++ (more ++ m ∷ []) ≡ (old ++ more) ++ m ∷ [] =

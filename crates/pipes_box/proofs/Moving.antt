@@ -13,10 +13,11 @@ use Rattle.pipes_box.specs.declared.port.Port.{Port}
 use Rattle.pipes_box.specs.declared.node.Node.{Node}
 use Rattle.pipes_box.specs.declared.plan_box.PlanBox.{PlanBox}
 use Rattle.pipes_box.specs.Nodes.{NodeLooks, NodeMoves, NodeTurned, PortMoves, Turned, total_ready}
-use Rattle.pipes_box.specs.Networks.{IsLinked, SettledLink, Settles}
+use Rattle.pipes_box.specs.Networks.{IsLinked, SettledLink, SettlesPorts}
 use Rattle.pipes_box.specs.Boxes.{IsSound, IsQuiet, IsStill, Moved, moved_by, all_moved}
-use Rattle.pipes_box.specs.Rounds.{AllTurned, TopLooks}
+use Rattle.pipes_box.specs.Rounds.{AllTurned, TopLooks, TopTaken}
 use Rattle.pipes_box.proofs.Totals.{Rises, sum-rises, sum-same, sum-clamped, sum-zero}
+use Rattle.pipes_box.proofs.BoxLaw.{some-node}
 use Rattle.pipes_box.proofs.Rounds.{no-more}
 
 -- ---- how many messages moved
@@ -35,7 +36,7 @@ all-looked old new count looks = sum-same moved_by old new count
     (λ k d h. looks-moved (get_or old k d) (get_or new k d) (looks k d h))
 
 -- by a port, those that it knew to wait, if none is left
-port-took-all : (p q : Port) → PortMoves p q → ready q.inlet ≡ 0
+pub port-took-all : (p q : Port) → PortMoves p q → ready q.inlet ≡ 0
     → length (taken q.inlet) ≡ length (taken p.inlet) + ready p.inlet
 port-took-all p q m none =
     omega (
@@ -71,7 +72,7 @@ pub record Idle (a b : Node) : Type 0 where
   pub places : spare a.outlet ≤ spare b.outlet
   pub moves : NodeMoves a b
 
-module _ (b0 b1 b2 b3 b4 : PlanBox) (top : TopLooks b0 b1) (links : Settles b1.nodes.items
+module _ (b0 b1 b2 b3 b4 : PlanBox) (top : TopLooks b0 b1) (links : SettlesPorts b1.nodes.items
     b2.nodes.items (length b1.nodes.items) 0) (turned : AllTurned b2.nodes.items b3.nodes.items)
     (top' : TopLooks b3 b4)
     (moved : ℕ) (total : moved ≡ min (sum_by (λ n. n.moved) b3.nodes.items) (2 ^ 64 - 1)) where
@@ -249,5 +250,37 @@ module _ (b0 b1 b2 b3 b4 : PlanBox) (top : TopLooks b0 b1) (links : Settles b1.n
         }
 
     -- once nothing moved and nothing waits at the top, nothing is on its way
-    pub round-still : b2.top ≡ b1.top → b3.top ≡ b2.top → ready b4.top ≡ 0 → IsStill b4
-    round-still same same' empty = record { links = still-links; top = still-top same same' empty }
+    pub round-still : b2.top ≡ b1.top → b3.top ≡ b2.top → ready b4.top ≡ 0 → b4.failed ≡ false
+        → IsStill b4
+    round-still same same' empty going = record {
+      going = going;
+      links = still-links;
+      top = still-top same same' empty;
+    }
+
+    -- nothing waits at the top after a round that moved nothing, where all was taken before
+    pub round-empty : b2.top ≡ b1.top → b3.top ≡ b2.top → IsSound b0 → TopTaken b0
+        → ready b4.top ≡ 0
+    round-empty same same' sound all =
+        let k : ℕ = sound.root in
+        let d : Node = some-node b0.nodes.items (omega (arith, sound.root_is)) in
+        let h0 : k < length b0.nodes.items = omega (arith, sound.root_is) in
+        let h1 : k < length b1.nodes.items = omega (arith, h0, top.count) in
+        let h2 : k < length b2.nodes.items = omega (arith, h1, links.count) in
+        let h3 : k < length b3.nodes.items = omega (arith, h2, turned.count) in
+        let last : k + 1 ≡ length b3.nodes.items =
+        omega (arith, sound.root_is, top.count, links.count, turned.count) in
+        let tops : taken b4.top ≡ taken b0.top = top'.taken_same
+        ∙ ap (λ (t : Inlet Message). taken t) (same' ∙ same) ∙ top.taken_same in
+        let sents : sent (get_or b4.nodes.items k d).outlet
+        ≡ sent (get_or b0.nodes.items k d).outlet =
+        (top'.looks k d h3).sent ∙ (turned-idle k d h2).same_sent ∙ (links.looks k d h1).sent
+        ∙ (top.looks k d h0).sent in
+        omega (
+          arith,
+          ap length (top'.waits k d last),
+          length-append (taken b4.top) (known b4.top),
+          ap length tops,
+          ap length sents,
+          ap length (all k d sound.root_is),
+        )

@@ -1,139 +1,344 @@
--- The parts of a plan that were built, by the kinds of its nodes.
-use Rattle.std.proofs.Common.{◌≡◌, ℕ, ◌+◌, ◌<◌, true, List, [], ◌∷◌, ◌++◌, length, get_or, zero}
+-- The parts of a plan that were built, whatever the kinds of its nodes.
+use Rattle.std.proofs.Common.{◌≡◌, ℕ, ◌+◌, ◌<◌, ◌≤◌, max, List, [], ◌∷◌, ◌++◌, length, get_or, zero}
 use Rattle.std.proofs.Common.{suc, rules, refl, sym, ◌∙◌, ap, subst, arith, append_assoc}
 use Rattle.std.proofs.Common.{length-append, slice_get, unwrap_or, Option, Some, None}
+use Rattle.std.proofs.Common.{Bool, true, false, nat_le}
 use Rattle.std.specs.Option.{option_and_then}
-use Rattle.pipes_tuple.specs.declared.value.Value.{Value}
+use Rattle.std.proofs.lemmas.Bool.{leb-true}
 use Rattle.pipes_tuple.specs.declared.value.Kind.{Kind}
-use Rattle.pipes_tuple.specs.Bag.{SameBag}
-use Rattle.pipes_tuple.proofs.Bags.{SameBag-filter, SameBag-map, SameBag-append}
 use Rattle.pipes_stream.specs.Lawful.{Task}
-use Rattle.pipes_expr.specs.declared.expr.Expr.{Expr}
-use Rattle.pipes_plan.specs.declared.plan.Plan.{Plan, the_lemmas}
-use Rattle.pipes_plan.specs.declared.plan.Plan.TheVariants.{Source, Filter, Map, Union}
-use Rattle.pipes_expr.specs.ExprValue.{passes}
-use Rattle.pipes_relation.specs.Relations.{values_of}
-use Rattle.pipes_plan.specs.PlanKinds.{IsTyped, plan_kinds, filter_kinds, map_kinds, sides_kinds}
-use Rattle.pipes_plan.proofs.PlanEquations.{kinds-Source, kinds-Filter, kinds-Map, kinds-Union}
-use Rattle.pipes_plan.proofs.PlanTyped.{filter_is, sides_are}
-use Rattle.pipes_flat.specs.Tasks.{filter_task, map_task, union_task}
+use Rattle.pipes_plan.specs.declared.plan.Plan.{Plan, the_lemmas, size-Plan}
+use Rattle.pipes_plan.specs.declared.plan.Plan.TheVariants.{Source}
+use Rattle.pipes_plan.specs.Sizes.{plan_nodes, plan_depth}
+use Rattle.pipes_plan.specs.PlanKinds.{IsTyped, plan_kinds}
+use Rattle.pipes_plan.specs.declared.fault.TypeRefusal.{TypeRefusal}
+use Rattle.pipes_expr.specs.declared.why.Why.TheVariants.{TooMany, TooDeep}
+use Rattle.pipes_expr.specs.ExprWhys.{unless}
+use Rattle.pipes_plan.specs.Refusals.{Checks, at, looked}
+use Rattle.pipes_plan.proofs.PlanEquations.{kinds-Source}
+use Rattle.pipes_plan.proofs.PlanTyped.{then_is, both_are}
 use Rattle.pipes_box.specs.declared.leaf.Leaf.{Leaf as PlanLeaf}
 use Rattle.pipes_box.specs.declared.node.Node.{Node}
 use Rattle.pipes_box.specs.declared.build.Part.{Part}
 use Rattle.pipes_box.specs.Shapes.{Shape, Leaf, One, Two, shape_of, gives_of, node_count, KeepsBags}
 use Rattle.pipes_box.specs.Networks.{leaves_of}
-use Rattle.pipes_box.specs.Parts.{Adds, AddsTask, IsNew, PartHolds, PartBuilt}
+use Rattle.pipes_box.specs.Parts.{Adds, AddsTask, CanBuild, IsNew, PartHolds, PartBuilt}
 use Rattle.pipes_box.proofs.Built.{holds-more, one-holds, one-new, two-holds, two-new, leaf-holds}
 use Rattle.pipes_box.proofs.Built.{leaf-new}
+
+-- a node over one child: what it makes of the child's kinds, and its task over them
+pub record IsOne (ss : List (List Kind)) (plan a : Plan) (f : List Kind → Option (List Kind))
+    (task : List Kind → Task) : Type 0 where
+  pub kinds : plan_kinds plan ss ≡ option_and_then f (plan_kinds a ss)
+  pub shape : shape_of ss plan ≡ One (task (gives_of (shape_of ss a))) (shape_of ss a)
+  pub nodes : plan_nodes plan ≡ plan_nodes a + 1
+  pub depth : plan_depth plan ≡ plan_depth a + 1
+  pub size : size-Plan a < size-Plan plan
+  pub keeps : (s : List Kind) → KeepsBags (task s)
+  pub ports : (s : List Kind) → (task s).ports ≡ 1
+  pub takes : (s : List Kind) → (task s).takes 0 ≡ s
+  pub gives : (s t : List Kind) → f s ≡ Some t → (task s).gives ≡ t
+
+-- a node over two
+pub record IsTwo (ss : List (List Kind)) (plan a b : Plan)
+    (f : List Kind → List Kind → Option (List Kind)) (task : List Kind → List Kind → Task) : Type 0
+  where
+    pub kinds : plan_kinds plan ss
+        ≡ option_and_then (λ s. option_and_then (f s) (plan_kinds b ss)) (plan_kinds a ss)
+    pub shape : shape_of ss plan ≡ Two (task (gives_of (shape_of ss a)) (gives_of (shape_of ss b)))
+        (shape_of ss a) (shape_of ss b)
+    pub nodes : plan_nodes plan ≡ plan_nodes a + plan_nodes b + 1
+    pub depth : plan_depth plan ≡ max (plan_depth a) (plan_depth b) + 1
+    pub size : (size-Plan a < size-Plan plan) × (size-Plan b < size-Plan plan)
+    pub keeps : (s t : List Kind) → KeepsBags (task s t)
+    pub ports : (s t : List Kind) → (task s t).ports ≡ 2
+    pub takes : (s t u : List Kind) → f s t ≡ Some u
+        → ((task s t).takes 0 ≡ s) × ((task s t).takes 1 ≡ t)
+    pub gives : (s t u : List Kind) → f s t ≡ Some u → (task s t).gives ≡ u
+
+-- how a node of this number at this depth is entered: its first child has the next number
+pub record Entered (number depth first below : ℕ) : Type 0 where
+  pub first_is : first ≡ number + 1
+  pub below_is : below ≡ depth + 1
+  pub shallow : depth ≤ 31
+
+nodes-Source : (i : ℕ) → plan_nodes (Source i) ≡ 1
+nodes-Source i = search (rules, the_lemmas)
+
+depth-Source : (i : ℕ) → plan_depth (Source i) ≡ 1
+depth-Source i = search (rules, the_lemmas)
 
 pub shape-Source : (ss : List (List Kind)) (i : ℕ) → shape_of ss (Source i) ≡ Leaf i
     (unwrap_or (slice_get ss i) [])
 shape-Source ss i = search (rules, the_lemmas)
 
-pub shape-Filter : (ss : List (List Kind)) (p : Expr) (a : Plan)
-    → shape_of ss (Filter p a) ≡ One (filter_task p (gives_of (shape_of ss a))) (shape_of ss a)
-shape-Filter ss p a = search (rules, the_lemmas)
+-- ---- the limits of a plan that checks
 
-pub shape-Map : (ss : List (List Kind)) (es : List Expr) (a : Plan)
-    → shape_of ss (Map es a) ≡ One (map_task es (gives_of (shape_of ss a))) (shape_of ss a)
-shape-Map ss es a = search (rules, the_lemmas)
+no-refusals : (b c : Bool) (rest : List TypeRefusal)
+    → at 0 (unless b TooMany ++ unless c TooDeep) ++ rest ≡ [] → (b ≡ true) × (c ≡ true)
+no-refusals true true rest h = (refl, refl)
+no-refusals true false rest h = cc
+no-refusals false true rest h = cc
+no-refusals false false rest h = cc
 
-pub shape-Union : (ss : List (List Kind)) (a b : Plan) → shape_of ss (Union a b) ≡ Two
-    (union_task (gives_of (shape_of ss a))) (shape_of ss a) (shape_of ss b)
-shape-Union ss a b = search (rules, the_lemmas)
+pub checks-within : (ss : List (List Kind)) (plan : Plan) → Checks ss plan
+    → (plan_nodes plan ≤ 255) × (plan_depth plan ≤ 32)
+checks-within ss plan c =
+    let w = no-refusals (nat_le (plan_nodes plan) 255) (nat_le (plan_depth plan) 32)
+    (looked ss plan 0).refusals c.unrefused in
+    (leb-true (plan_nodes plan) 255 w.0, leb-true (plan_depth plan) 32 w.1)
 
-keeps-filter : (p : Expr) (ks : List Kind) → KeepsBags (filter_task p ks)
-keeps-filter p ks f g same = SameBag-filter (passes p) (same 0 (omega arith))
+-- what a whole plan needs to be built
+pub can-whole : (ss : List (List Kind)) (plan : Plan) → IsTyped plan ss → Checks ss plan
+    → CanBuild ss plan 0 0 1
+can-whole ss plan typed c =
+    let w = checks-within ss plan c in
+    record {
+      typed = typed;
+      shallow = omega (arith, w.1);
+      few = omega (arith, w.0);
+      next_is = refl;
+    }
 
-keeps-map : (es : List Expr) (ks : List Kind) → KeepsBags (map_task es ks)
-keeps-map es ks f g same = SameBag-map (values_of es) (same 0 (omega arith))
+-- a source at a depth
+pub source-shallow : (plan : Plan) (i depth : ℕ) → plan ≡ Source i → depth + plan_depth plan ≤ 32
+    → depth ≤ 31
+source-shallow plan i depth is h = omega (arith, ap plan_depth is, depth-Source i, h)
 
-keeps-union : (ks : List Kind) → KeepsBags (union_task ks)
-keeps-union ks f g same = SameBag-append (same 0 (omega arith)) (same 1 (omega arith))
+pub source-nodes : (plan : Plan) (i : ℕ) → plan ≡ Source i → plan_nodes plan ≡ 1
+source-nodes plan i is = ap plan_nodes is ∙ nodes-Source i
+
+-- a node over sources of the kinds of its parts is typed, as the node over the parts is
+pub over-one : (whole : Plan) (f : List Kind → Option (List Kind)) (s t : List Kind)
+    → plan_kinds whole (s ∷ []) ≡ option_and_then f (plan_kinds (Source 0) (s ∷ [])) → f s ≡ Some t
+    → IsTyped whole (s ∷ [])
+over-one whole f s t e h = record {
+  schema = t;
+  is = e ∙ ap (option_and_then f) (kinds-Source 0 (s ∷ [])) ∙ h;
+}
+
+pub over-two : (whole : Plan) (f : List Kind → List Kind → Option (List Kind)) (s r t : List Kind)
+    → plan_kinds whole (s ∷ r ∷ []) ≡ option_and_then
+    (λ x. option_and_then (f x) (plan_kinds (Source 1) (s ∷ r ∷ [])))
+    (plan_kinds (Source 0) (s ∷ r ∷ [])) → f s r ≡ Some t → IsTyped whole (s ∷ r ∷ [])
+over-two whole f s r t e h = record {
+  schema = t;
+  is = e ∙ ap (λ (o : Option (List Kind)). option_and_then
+      (λ x. option_and_then (f x) (plan_kinds (Source 1) (s ∷ r ∷ []))) o)
+      (kinds-Source 0 (s ∷ r ∷ []))
+      ∙ ap (option_and_then (f s)) (kinds-Source 1 (s ∷ r ∷ [])) ∙ h;
+}
 
 module _ (ss : List (List Kind)) where
-  -- a node over one part that was built
-  built-one : (plan a : Plan) (old mid new : List Node) (ls ls' : List PlanLeaf) (part whole : Part)
-      (task : Task) → shape_of ss plan ≡ One task (shape_of ss a)
-      → PartBuilt ss a old mid ls ls' part → AddsTask mid new task (part ∷ []) whole
-      → KeepsBags task → task.ports ≡ 1 → task.takes 0 ≡ part.schema → task.gives ≡ whole.schema
-      → plan_kinds plan ss ≡ Some whole.schema → PartBuilt ss plan old new ls ls' whole
-  built-one plan a old mid new ls ls' part whole task shape b t keeps one takes gives kinds =
-      let added : new ≡ old ++ (b.more ++ t.adds.adds.node ∷ []) = t.adds.adds.added
-      ∙ ap (λ (ns : List Node). ns ++ t.adds.adds.node ∷ []) b.added
-      ∙ append_assoc old b.more (t.adds.adds.node ∷ []) in
-      let len : length new ≡ length mid + 1 = ap length t.adds.adds.added
-      ∙ length-append mid (t.adds.adds.node ∷ []) in
-      let counts : node_count (shape_of ss plan) ≡ node_count (shape_of ss a) + 1 =
-      ap node_count shape in
-      record {
-        more = b.more ++ t.adds.adds.node ∷ [];
-        added = added;
-        count = omega (arith, len, b.count, counts);
-        kinds = kinds;
-        holds = subst (λ (s : Shape). PartHolds new (length old) s whole) (sym shape)
-            (one-holds mid new (length old) (shape_of ss a) part whole task b.holds b.count t keeps
-            one takes gives);
-        stays_new = λ n. one-new mid new (length old) (shape_of ss a) part whole task b.holds
-            b.count t keeps one takes (b.stays_new n);
-        leaves_are = subst (λ (s : Shape). ls' ≡ ls ++ leaves_of s (length old))
-            (sym shape) b.leaves_are;
-      }
+  -- ---- a node over one child
 
-  built-two : (plan a b : Plan) (old mid mid' new : List Node) (ls ls' ls'' : List PlanLeaf)
-      (left right whole : Part) (task : Task) → shape_of ss plan ≡ Two task (shape_of ss a)
-      (shape_of ss b) → PartBuilt ss a old mid ls ls' left → PartBuilt ss b mid mid' ls' ls'' right
-      → AddsTask mid' new task (left ∷ right ∷ []) whole → KeepsBags task → task.ports ≡ 2
-      → task.takes 0 ≡ left.schema → task.takes 1 ≡ right.schema → task.gives ≡ whole.schema
-      → plan_kinds plan ss ≡ Some whole.schema → PartBuilt ss plan old new ls ls'' whole
-  built-two plan a b old mid mid' new ls ls' ls'' left right whole task shape l r t keeps two takes
-      takes' gives kinds =
-      let added : new ≡ old ++ (l.more ++ (r.more ++ t.adds.adds.node ∷ [])) =
-      t.adds.adds.added ∙ ap (λ (ns : List Node). ns ++ t.adds.adds.node ∷ [])
-      (r.added ∙ ap (λ (ns : List Node). ns ++ r.more) l.added)
-      ∙ append_assoc (old ++ l.more) r.more (t.adds.adds.node ∷ [])
-      ∙ append_assoc old l.more (r.more ++ t.adds.adds.node ∷ []) in
-      let len : length new ≡ length mid' + 1 = ap length t.adds.adds.added
-      ∙ length-append mid' (t.adds.adds.node ∷ []) in
-      let counts : node_count (shape_of ss plan) ≡ node_count (shape_of ss a) + node_count
-      (shape_of ss b) + 1 = ap node_count shape in
-      let lefts : PartHolds mid' (length old) (shape_of ss a) left =
-      subst (λ (ns : List Node). PartHolds ns (length old) (shape_of ss a) left) (sym r.added)
-      (holds-more mid r.more (length old) (shape_of ss a) left l.holds) in
-      let rights : PartHolds mid' (length old + node_count (shape_of ss a)) (shape_of ss b) right =
-      subst (λ (k : ℕ). PartHolds mid' k (shape_of ss b) right) l.count r.holds in
-      let all : length mid' ≡ length old + node_count (shape_of ss a) + node_count (shape_of ss b) =
-      omega (arith, l.count, r.count) in
-      record {
-        more = l.more ++ (r.more ++ t.adds.adds.node ∷ []);
-        added = added;
-        count = omega (arith, len, all, counts);
-        kinds = kinds;
-        holds = subst (λ (s : Shape). PartHolds new (length old) s whole) (sym shape)
-            (two-holds mid' new (length old) (shape_of ss a) (shape_of ss b) left right whole task
-            lefts rights all t keeps two takes takes' gives);
-        stays_new = λ n. two-new mid' new (length old) (shape_of ss a) (shape_of ss b) left right
-            whole task lefts rights all t keeps two takes takes' (r.stays_new (l.stays_new n));
-        leaves_are = subst (λ (s : Shape). ls'' ≡ ls ++ leaves_of s (length old)) (sym shape)
-            (r.leaves_are ∙ ap (λ (xs : List PlanLeaf). xs ++ leaves_of (shape_of ss b)
-            (length mid)) l.leaves_are ∙ append_assoc ls (leaves_of (shape_of ss a) (length old))
-            (leaves_of (shape_of ss b) (length mid))
-            ∙ ap (λ (k : ℕ). ls ++ (leaves_of (shape_of ss a) (length old)
-            ++ leaves_of (shape_of ss b) k)) l.count);
-      }
+  module _ (plan a : Plan) (f : List Kind → Option (List Kind)) (task : List Kind → Task)
+      (o : IsOne ss plan a f task) where
+    one-typed : IsTyped plan ss → IsTyped a ss
+    one-typed t = let w = then_is f (plan_kinds a ss) t.schema (sym o.kinds ∙ t.is) in
+        record { schema = w.0; is = w.1 }
 
-  some-kinds : (x y : List Kind) → ◌≡◌ {A = Option (List Kind)} (Some x) (Some y) → x ≡ y
-  some-kinds x y h = cc
+    pub can-one : (number depth next first below after : ℕ) → CanBuild ss plan number depth next
+        → first ≡ next → below ≡ depth + 1 → after ≡ next + 1 → CanBuild ss a first below after
+    can-one number depth next first below after can first-is below-is after-is = record {
+      typed = one-typed can.typed;
+      shallow = omega (arith, can.shallow, o.depth, below-is);
+      few = omega (arith, can.few, o.nodes, first-is, can.next_is);
+      next_is = omega (arith, first-is, after-is);
+    }
 
-  some-of : (x y : List Kind) → x ≡ y → ◌≡◌ {A = Option (List Kind)} (Some x) (Some y)
-  some-of x y h = cc
+    pub enter-one : (number depth next first below : ℕ) → CanBuild ss plan number depth next
+        → first ≡ next → below ≡ depth + 1 → Entered number depth first below
+    enter-one number depth next first below can first-is below-is = record {
+      first_is = omega (arith, first-is, can.next_is);
+      below_is = below-is;
+      shallow = omega (arith, can.shallow, o.depth);
+    }
 
-  pub built-source : (plan : Plan) (i : ℕ) (old new : List Node) (ls ls' : List PlanLeaf)
-      (part : Part) → plan ≡ Source i → slice_get ss i ≡ Some part.schema
-      → Adds old new None [] part.inlet → part.root ≡ length old
+    -- what the node makes of its child's kinds
+    pub own-one : (s t : List Kind) → plan_kinds a ss ≡ Some s → plan_kinds plan ss ≡ Some t
+        → f s ≡ Some t
+    own-one s t child own = sym (o.kinds ∙ ap (option_and_then f) child) ∙ own
+
+    pub built-one : (number depth first below : ℕ) (old mid new : List Node)
+        (ls ls' : List PlanLeaf) (part whole : Part) → Entered number depth first below
+        → PartBuilt ss a first below old mid ls ls' part
+        → AddsTask number depth mid new (task part.schema) (part ∷ []) whole
+        → plan_kinds plan ss ≡ Some whole.schema
+        → PartBuilt ss plan number depth old new ls ls' whole
+    built-one number depth first below old mid new ls ls' part whole enter b t kinds =
+        let own : Task = task part.schema in
+        let shape : shape_of ss plan ≡ One own (shape_of ss a) =
+        o.shape ∙ ap (λ (ks : List Kind). One (task ks) (shape_of ss a)) b.holds.gives in
+        let gives : own.gives ≡ whole.schema =
+        o.gives part.schema whole.schema (own-one part.schema whole.schema b.kinds kinds) in
+        let added : new ≡ old ++ (b.more ++ t.adds.adds.node ∷ []) = t.adds.adds.added
+        ∙ ap (λ (ns : List Node). ns ++ t.adds.adds.node ∷ []) b.added
+        ∙ append_assoc old b.more (t.adds.adds.node ∷ []) in
+        let len : length new ≡ length mid + 1 = ap length t.adds.adds.added
+        ∙ length-append mid (t.adds.adds.node ∷ []) in
+        let counts : node_count (shape_of ss plan) ≡ node_count (shape_of ss a) + 1 =
+        ap node_count shape in
+        let holds : PartHolds mid (length old) (number + 1) (depth + 1) (shape_of ss a) part =
+        subst (λ (k : ℕ). PartHolds mid (length old) k (depth + 1) (shape_of ss a) part)
+        enter.first_is
+        (subst (λ (k : ℕ). PartHolds mid (length old) first k (shape_of ss a) part)
+        enter.below_is b.holds) in
+        record {
+          more = b.more ++ t.adds.adds.node ∷ [];
+          added = added;
+          count = omega (arith, len, b.count, counts);
+          kinds = kinds;
+          size = omega (arith, counts, o.nodes, b.size);
+          holds = subst (λ (s : Shape). PartHolds new (length old) number depth s whole)
+              (sym shape)
+              (one-holds mid new (length old) number depth (shape_of ss a) part whole own holds
+              b.count t (o.keeps part.schema) (o.ports part.schema) (o.takes part.schema) gives);
+          stays_new = λ n. one-new mid new (length old) number depth (shape_of ss a) part whole own
+              holds b.count t (o.keeps part.schema) (o.ports part.schema) (o.takes part.schema)
+              enter.shallow (b.stays_new n);
+          leaves_are = subst (λ (s : Shape). ls' ≡ ls ++ leaves_of s (length old))
+              (sym shape) b.leaves_are;
+        }
+
+    pub next-one : (number depth next first after last : ℕ) → CanBuild ss plan number depth next
+        → first ≡ next → last ≡ first + plan_nodes a → last ≡ number + plan_nodes plan
+    next-one number depth next first after last can first-is last-is =
+        omega (arith, first-is, last-is, can.next_is, o.nodes)
+
+  -- ---- a node over two children
+
+  module _ (plan a b : Plan) (f : List Kind → List Kind → Option (List Kind))
+      (task : List Kind → List Kind → Task) (o : IsTwo ss plan a b f task) where
+    two-typed : IsTyped plan ss → IsTyped a ss × IsTyped b ss
+    two-typed t =
+        let w = both_are f (plan_kinds a ss) (plan_kinds b ss) t.schema (sym o.kinds ∙ t.is) in
+        (record { schema = w.0; is = w.2 }, record { schema = w.1; is = w.3 })
+
+    pub can-left : (number depth next first below after : ℕ) → CanBuild ss plan number depth next
+        → first ≡ next → below ≡ depth + 1 → after ≡ next + 1 → CanBuild ss a first below after
+    can-left number depth next first below after can first-is below-is after-is = record {
+      typed = (two-typed can.typed).0;
+      shallow = omega (arith, can.shallow, o.depth, below-is);
+      few = omega (arith, can.few, o.nodes, first-is, can.next_is);
+      next_is = omega (arith, first-is, after-is);
+    }
+
+    -- the right child's number follows those of the left one's nodes
+    pub can-right : (number depth next first second below after : ℕ)
+        → CanBuild ss plan number depth next → first ≡ next → second ≡ first + plan_nodes a
+        → below ≡ depth + 1 → after ≡ second + 1 → CanBuild ss b second below after
+    can-right number depth next first second below after can first-is second-is below-is after-is =
+        record {
+          typed = (two-typed can.typed).1;
+          shallow = omega (arith, can.shallow, o.depth, below-is);
+          few = omega (arith, can.few, o.nodes, first-is, second-is, can.next_is);
+          next_is = omega (arith, after-is);
+        }
+
+    pub enter-two : (number depth next first below : ℕ) → CanBuild ss plan number depth next
+        → first ≡ next → below ≡ depth + 1 → Entered number depth first below
+    enter-two number depth next first below can first-is below-is = record {
+      first_is = omega (arith, first-is, can.next_is);
+      below_is = below-is;
+      shallow = omega (arith, can.shallow, o.depth);
+    }
+
+    pub own-two : (s r t : List Kind) → plan_kinds a ss ≡ Some s → plan_kinds b ss ≡ Some r
+        → plan_kinds plan ss ≡ Some t → f s r ≡ Some t
+    own-two s r t left right own =
+        sym (o.kinds ∙ ap (λ (x : Option (List Kind)). option_and_then
+        (λ y. option_and_then (f y) (plan_kinds b ss)) x) left
+        ∙ ap (option_and_then (f s)) right) ∙ own
+
+    pub built-two : (number depth first second below below' : ℕ) (old mid mid' new : List Node)
+        (ls ls' ls'' : List PlanLeaf) (left right whole : Part)
+        → Entered number depth first below → below' ≡ below → second ≡ first + plan_nodes a
+        → PartBuilt ss a first below old mid ls ls' left
+        → PartBuilt ss b second below' mid mid' ls' ls'' right
+        → AddsTask number depth mid' new (task left.schema right.schema) (left ∷ right ∷ []) whole
+        → plan_kinds plan ss ≡ Some whole.schema
+        → PartBuilt ss plan number depth old new ls ls'' whole
+    built-two number depth first second below below' old mid mid' new ls ls' ls'' left right whole
+        enter same next l r t kinds =
+        let own : Task = task left.schema right.schema in
+        let made = own-two left.schema right.schema whole.schema l.kinds r.kinds kinds in
+        let keeps : KeepsBags own = o.keeps left.schema right.schema in
+        let two : own.ports ≡ 2 = o.ports left.schema right.schema in
+        let takes = o.takes left.schema right.schema whole.schema made in
+        let gives : own.gives ≡ whole.schema = o.gives left.schema right.schema whole.schema made in
+        let shape : shape_of ss plan ≡ Two own (shape_of ss a) (shape_of ss b) =
+        o.shape ∙ ap (λ (ks : List Kind). Two (task ks (gives_of (shape_of ss b))) (shape_of ss a)
+        (shape_of ss b)) l.holds.gives
+        ∙ ap (λ (ks : List Kind). Two (task left.schema ks) (shape_of ss a) (shape_of ss b))
+        r.holds.gives in
+        let added : new ≡ old ++ (l.more ++ (r.more ++ t.adds.adds.node ∷ [])) =
+        t.adds.adds.added ∙ ap (λ (ns : List Node). ns ++ t.adds.adds.node ∷ [])
+        (r.added ∙ ap (λ (ns : List Node). ns ++ r.more) l.added)
+        ∙ append_assoc (old ++ l.more) r.more (t.adds.adds.node ∷ [])
+        ∙ append_assoc old l.more (r.more ++ t.adds.adds.node ∷ []) in
+        let len : length new ≡ length mid' + 1 = ap length t.adds.adds.added
+        ∙ length-append mid' (t.adds.adds.node ∷ []) in
+        let counts : node_count (shape_of ss plan) ≡ node_count (shape_of ss a) + node_count
+        (shape_of ss b) + 1 = ap node_count shape in
+        let left-holds : PartHolds mid (length old) (number + 1) (depth + 1) (shape_of ss a) left =
+        subst (λ (k : ℕ). PartHolds mid (length old) k (depth + 1) (shape_of ss a) left)
+        enter.first_is
+        (subst (λ (k : ℕ). PartHolds mid (length old) first k (shape_of ss a) left)
+        enter.below_is l.holds) in
+        let lefts : PartHolds mid' (length old) (number + 1) (depth + 1) (shape_of ss a) left =
+        subst (λ (ns : List Node). PartHolds ns (length old) (number + 1) (depth + 1)
+        (shape_of ss a) left) (sym r.added)
+        (holds-more mid r.more (length old) (number + 1) (depth + 1) (shape_of ss a) left
+        left-holds) in
+        let after-left : second ≡ number + 1 + node_count (shape_of ss a) =
+        omega (arith, next, enter.first_is, l.size) in
+        let rights : PartHolds mid' (length old + node_count (shape_of ss a))
+        (number + 1 + node_count (shape_of ss a)) (depth + 1) (shape_of ss b) right =
+        subst (λ (k : ℕ). PartHolds mid' k (number + 1 + node_count (shape_of ss a)) (depth + 1)
+        (shape_of ss b) right) l.count
+        (subst (λ (k : ℕ). PartHolds mid' (length mid) k (depth + 1) (shape_of ss b) right)
+        after-left
+        (subst (λ (k : ℕ). PartHolds mid' (length mid) second k (shape_of ss b) right)
+        (same ∙ enter.below_is) r.holds)) in
+        let all : length mid'
+        ≡ length old + node_count (shape_of ss a) + node_count (shape_of ss b) =
+        omega (arith, l.count, r.count) in
+        record {
+          more = l.more ++ (r.more ++ t.adds.adds.node ∷ []);
+          added = added;
+          count = omega (arith, len, all, counts);
+          kinds = kinds;
+          size = omega (arith, counts, o.nodes, l.size, r.size);
+          holds = subst (λ (s : Shape). PartHolds new (length old) number depth s whole) (sym shape)
+              (two-holds mid' new (length old) number depth (shape_of ss a) (shape_of ss b) left
+              right whole own lefts rights all t keeps two takes.0 takes.1 gives);
+          stays_new = λ n. two-new mid' new (length old) number depth (shape_of ss a)
+              (shape_of ss b) left right whole own lefts rights all t keeps two takes.0 takes.1
+              enter.shallow (r.stays_new (l.stays_new n));
+          leaves_are = subst (λ (s : Shape). ls'' ≡ ls ++ leaves_of s (length old)) (sym shape)
+              (r.leaves_are ∙ ap (λ (xs : List PlanLeaf). xs ++ leaves_of (shape_of ss b)
+              (length mid)) l.leaves_are ∙ append_assoc ls (leaves_of (shape_of ss a) (length old))
+              (leaves_of (shape_of ss b) (length mid))
+              ∙ ap (λ (k : ℕ). ls ++ (leaves_of (shape_of ss a) (length old)
+              ++ leaves_of (shape_of ss b) k)) l.count);
+        }
+
+    pub next-two : (number depth next first second last : ℕ) → CanBuild ss plan number depth next
+        → first ≡ next → second ≡ first + plan_nodes a → last ≡ second + plan_nodes b
+        → last ≡ number + plan_nodes plan
+    next-two number depth next first second last can first-is second-is last-is =
+        omega (arith, first-is, second-is, last-is, can.next_is, o.nodes)
+
+  -- ---- a source
+
+  pub built-source : (plan : Plan) (i number depth : ℕ) (old new : List Node)
+      (ls ls' : List PlanLeaf) (part : Part) → plan ≡ Source i
+      → slice_get ss i ≡ Some part.schema → depth ≤ 31
+      → Adds number depth old new None [] part.inlet → part.root ≡ length old
       → ls' ≡ ls ++ record { node = length old; source = i } ∷ []
-      → PartBuilt ss plan old new ls ls' part
-  built-source plan i old new ls ls' part is schema t root leaves =
+      → PartBuilt ss plan number depth old new ls ls' part
+  built-source plan i number depth old new ls ls' part is schema shallow t root leaves =
       let shape : shape_of ss plan ≡ Leaf i part.schema = ap (shape_of ss) is ∙ shape-Source ss i
       ∙ ap (λ (o : Option (List Kind)). Leaf i (unwrap_or o [])) schema in
       let len : length new ≡ length old + 1 = ap length t.added ∙ length-append old (t.node ∷ []) in
@@ -143,103 +348,11 @@ module _ (ss : List (List Kind)) where
         added = t.added;
         count = omega (arith, len, counts);
         kinds = ap (λ (x : Plan). plan_kinds x ss) is ∙ kinds-Source i ss ∙ schema;
-        holds = subst (λ (s : Shape). PartHolds new (length old) s part) (sym shape)
-            (leaf-holds old new i part.schema part t root refl);
-        stays_new = leaf-new old new i part.schema part t root;
+        size = omega (arith, counts, source-nodes plan i is);
+        holds = subst (λ (s : Shape). PartHolds new (length old) number depth s part) (sym shape)
+            (leaf-holds old new number depth i part.schema part t root refl);
+        stays_new = leaf-new old new number depth i part.schema part t root shallow;
         leaves_are = subst (λ (s : Shape). ls' ≡ ls ++ leaves_of s (length old)) (sym shape) leaves;
-      }
-
-  -- a filter keeps the schema of a typed plan
-  filter-kinds : (p : Expr) (a : Plan) (s : List Kind) → plan_kinds a ss ≡ Some s
-      → IsTyped (Filter p a) ss → plan_kinds (Filter p a) ss ≡ Some s
-  filter-kinds p a s child typed =
-      let kinds : plan_kinds (Filter p a) ss ≡ filter_kinds p s = kinds-Filter p a ss
-      ∙ ap (option_and_then (filter_kinds p)) child in
-      typed.is ∙ some-of typed.schema s (sym (filter_is p s typed.schema (sym kinds ∙ typed.is)))
-
-  pub built-filter : (plan : Plan) (p : Expr) (a x : Plan) (old mid new : List Node)
-      (ls ls' : List PlanLeaf) (part whole : Part) → plan ≡ Filter p a → x ≡ a → IsTyped plan ss
-      → PartBuilt ss x old mid ls ls' part → AddsTask mid new (filter_task p part.schema)
-      (part ∷ []) whole
-      → whole.schema ≡ part.schema → PartBuilt ss plan old new ls ls' whole
-  built-filter plan p a x old mid new ls ls' part whole is x-is typed b t schema =
-      let same : plan ≡ Filter p x = is ∙ ap (λ (y : Plan). Filter p y) (sym x-is) in
-      let kinds : plan_kinds plan ss ≡ Some part.schema = ap (λ (y : Plan). plan_kinds y ss) same
-      ∙ filter-kinds p x part.schema b.kinds (subst (λ (y : Plan). IsTyped y ss) same
-      typed) in
-      built-one plan x old mid new ls ls' part whole (filter_task p part.schema)
-      (ap (shape_of ss) same ∙ shape-Filter ss p x
-      ∙ ap (λ (ks : List Kind). One (filter_task p ks) (shape_of ss x)) b.holds.gives) b t
-      (keeps-filter p part.schema) refl refl (sym schema) (kinds
-      ∙ some-of part.schema whole.schema (sym schema))
-
-  pub built-map : (plan : Plan) (es : List Expr) (a x : Plan) (old mid new : List Node)
-      (ls ls' : List PlanLeaf) (part whole : Part) → plan ≡ Map es a → x ≡ a
-      → plan_kinds plan ss ≡ Some whole.schema → PartBuilt ss x old mid ls ls' part
-      → AddsTask mid new (map_task es part.schema) (part ∷ []) whole
-      → PartBuilt ss plan old new ls ls' whole
-  built-map plan es a x old mid new ls ls' part whole is x-is kinds b t =
-      let same : plan ≡ Map es x = is ∙ ap (λ (y : Plan). Map es y) (sym x-is) in
-      let own : map_kinds es part.schema ≡ Some whole.schema =
-      sym (ap (λ (y : Plan). plan_kinds y ss) same ∙ kinds-Map es x ss
-      ∙ ap (option_and_then (map_kinds es)) b.kinds) ∙ kinds in
-      built-one plan x old mid new ls ls' part whole (map_task es part.schema)
-      (ap (shape_of ss) same ∙ shape-Map ss es x
-      ∙ ap (λ (ks : List Kind). One (map_task es ks) (shape_of ss x)) b.holds.gives) b t
-      (keeps-map es part.schema) refl refl (ap (λ (o : Option (List Kind)). unwrap_or o []) own)
-      kinds
-
-  -- both sides of a typed union are of its schema
-  union-kinds : (a b : Plan) (s r : List Kind) → plan_kinds a ss ≡ Some s → plan_kinds b ss ≡ Some r
-      → (typed : IsTyped (Union a b) ss) → (s ≡ typed.schema) × (r ≡ typed.schema)
-  union-kinds a b s r left right typed =
-      let kinds : plan_kinds (Union a b) ss ≡ sides_kinds s r =
-      kinds-Union a b ss ∙ ap (λ (o : Option (List Kind)). option_and_then
-      (λ x. option_and_then (sides_kinds x) (plan_kinds b ss)) o) left
-      ∙ ap (option_and_then (sides_kinds s)) right in
-      sides_are s r typed.schema (sym kinds ∙ typed.is)
-
-  pub built-union : (plan a b x y : Plan) (old mid mid' new : List Node)
-      (ls ls' ls'' : List PlanLeaf) (left right whole : Part) → plan ≡ Union a b → x ≡ a → y ≡ b
-      → IsTyped plan ss → PartBuilt ss x old mid ls ls' left
-      → PartBuilt ss y mid mid' ls' ls'' right
-      → AddsTask mid' new (union_task left.schema) (left ∷ right ∷ []) whole
-      → whole.schema ≡ left.schema → PartBuilt ss plan old new ls ls'' whole
-  built-union plan a b x y old mid mid' new ls ls' ls'' left right whole is x-is y-is typed l r t
-      schema =
-      let same : plan ≡ Union x y = is ∙ ap (λ (z : Plan). Union z b) (sym x-is)
-      ∙ ap (λ (z : Plan). Union x z) (sym y-is) in
-      let own : IsTyped (Union x y) ss = subst (λ (z : Plan). IsTyped z ss) same typed in
-      let sides = union-kinds x y left.schema right.schema l.kinds r.kinds own in
-      built-two plan x y old mid mid' new ls ls' ls'' left right whole (union_task left.schema)
-      (ap (shape_of ss) same ∙ shape-Union ss x y
-      ∙ ap (λ (ks : List Kind). Two (union_task ks) (shape_of ss x) (shape_of ss y))
-      l.holds.gives) l r t
-      (keeps-union left.schema) refl refl (sides.0 ∙ sym sides.1) (sym schema)
-      (ap (λ (z : Plan). plan_kinds z ss) same ∙ own.is ∙ some-of own.schema whole.schema
-      (sym (schema ∙ sides.0)))
-
-  -- a union over sources of one schema is typed
-  pub union-typed : (plan a b x y : Plan) (s r : List Kind) → plan ≡ Union a b → x ≡ a → y ≡ b
-      → plan_kinds x ss ≡ Some s → plan_kinds y ss ≡ Some r → IsTyped plan ss
-      → IsTyped (Union (Source 0) (Source 1)) (s ∷ s ∷ [])
-  union-typed plan a b x y s r is x-is y-is left right typed =
-      let same : plan ≡ Union x y = is ∙ ap (λ (z : Plan). Union z b) (sym x-is)
-      ∙ ap (λ (z : Plan). Union x z) (sym y-is) in
-      let own : IsTyped (Union x y) ss = subst (λ (z : Plan). IsTyped z ss) same typed in
-      let sides = union-kinds x y s r left right own in
-      let kinds : sides_kinds s r ≡ Some own.schema = sym (kinds-Union x y ss
-      ∙ ap (λ (o : Option (List Kind)). option_and_then
-      (λ z. option_and_then (sides_kinds z) (plan_kinds y ss)) o) left
-      ∙ ap (option_and_then (sides_kinds s)) right) ∙ own.is in
-      let both : sides_kinds s s ≡ Some s = ap (sides_kinds s) (sides.0 ∙ sym sides.1) ∙ kinds
-      ∙ some-of own.schema s (sym sides.0) in
-      record {
-        schema = s;
-        is = kinds-Union (Source 0) (Source 1) (s ∷ s ∷ []) ∙ ap
-            (λ (o : Option (List Kind)). option_and_then (λ z. option_and_then (sides_kinds z)
-            (plan_kinds (Source 1) (s ∷ s ∷ []))) o) (kinds-Source 0 (s ∷ s ∷ []))
-            ∙ ap (option_and_then (sides_kinds s)) (kinds-Source 1 (s ∷ s ∷ [])) ∙ both;
       }
 
 get-is : (xs : List (List Kind)) (i : ℕ) (x d : List Kind) → slice_get xs i ≡ Some x

@@ -6,7 +6,9 @@ use Rattle.std.specs.Prelude.{IfSome, IfNone}
 use Rattle.std.proofs.lemmas.List.{get_or-set_same, get_or-set_other}
 use Rattle.pipes_tuple.specs.declared.value.Kind.{Kind}
 use Rattle.pipes_stream.specs.declared.message.Message.{Message}
-use Rattle.pipes_stream.specs.Lists.{start_of_list}
+use Rattle.pipes_stream.specs.Progress.{Progress}
+use Rattle.pipes_stream.specs.Lists.{start_of_list, run, after}
+use Rattle.pipes_stream.proofs.Messages.{run-push}
 use Rattle.pipes_stream.specs.Lawful.{Lists, Task}
 use Rattle.pipes_link.specs.declared.outlet.Outlet.{Outlet}
 use Rattle.pipes_link.specs.declared.inlet.Inlet.{Inlet}
@@ -20,21 +22,22 @@ use Rattle.pipes_box.specs.declared.node.Node.{Node}
 use Rattle.pipes_box.specs.declared.plan_box.PlanBox.{PlanBox}
 use Rattle.pipes_box.specs.Nodes.{IsCounted, EmitsIn, NodeStands, NodeLooks, PortLooks, PortStands}
 use Rattle.pipes_box.specs.Nodes.{NodeMoves, PortMoves, NodeTurned, Turned, total_ready, task_in}
-use Rattle.pipes_box.specs.Nodes.{ports_of, kinds_at}
+use Rattle.pipes_box.specs.Nodes.{ports_of, kinds_at, PutOf, NodeStood, NodeHolds}
 use Rattle.pipes_box.specs.Passing.{Passes}
 use Rattle.pipes_box.specs.Shapes.{Shape, Leaf, One, Two, shape_of, node_count, leaf_count}
 use Rattle.pipes_box.specs.Shapes.{IsProper}
-use Rattle.pipes_box.specs.Networks.{EndsHold, LinkHolds, IsLinked, IsWired, LeavesGave, ChildAt}
-use Rattle.pipes_box.specs.Networks.{root_of, Settles}
+use Rattle.pipes_box.specs.Networks.{EndsHold, LinkHolds, IsLinked, IsWired, IsSpot}
+use Rattle.pipes_box.specs.Networks.{IsNumbered, LeavesGave, ChildAt, root_of, SettlesPorts}
 use Rattle.pipes_box.specs.Boxes.{IsSound, BoxStands}
 use Rattle.pipes_box.specs.Rounds.{TopLooks}
 use Rattle.pipes_box.proofs.NodeSteps.{place, get-any}
-use Rattle.pipes_box.proofs.Looks.{node_looks-self, looks-outlet, with_outlet}
+use Rattle.pipes_box.proofs.Stood.{refused-or-going, has-gone}
+use Rattle.pipes_box.proofs.Looks.{node_looks-self, looks-outlet, with_outlet, deeper-kept}
 
 -- ---- a look at the links
 
 -- a look changes nothing of what a node stands for
-pub looks-stands : (a b : Node) → NodeLooks a b → NodeStands a → NodeStands b
+looks-stands : (a b : Node) → NodeLooks a b → NodeStands a → NodeStands b
 looks-stands a b l s = record {
   passed = s.passed;
   ports = λ k d h.
@@ -59,17 +62,57 @@ looks-stands a b l s = record {
       s.emits));
 }
 
+looks-stood : (a b : Node) → NodeLooks a b → NodeStood a → NodeStood b
+looks-stood a b l s = record {
+  passed = s.passed;
+  ports = λ k d h.
+      let small : k < length a.ports.items = omega (arith, h, l.count) in
+      let p = s.ports k d small in
+      let q = l.ports k d small in (
+        p.0,
+        subst (λ (ks : List Kind). Passes ks start_of_list (taken (get_or b.ports.items k d).inlet)
+            (s.passed k ++ p.0)) (sym q.schema)
+            (subst (λ (xs : List Message). Passes (get_or a.ports.items k d).schema start_of_list xs
+            (s.passed k ++ p.0)) (sym q.taken) p.1),
+      );
+  kinds = λ k d h.
+      let small : k < length a.ports.items = omega (arith, h, l.count) in
+      ap (λ (o : Option PlanOperator). kinds_at (task_in o) k) l.operator ∙ s.kinds k d small
+      ∙ sym (l.ports k d small).schema;
+  puts = subst (λ (o : Option PlanOperator). PutOf (task_in o) s.passed (sent b.outlet))
+      (sym l.operator)
+      (subst (λ (xs : List Message). PutOf (task_in a.operator) s.passed xs) (sym l.sent) s.puts);
+}
+
+pub looks-holds : (a b : Node) → NodeLooks a b → NodeHolds a → NodeHolds b
+looks-holds a b l h = record {
+  stood = looks-stood a b l h.stood;
+  stands = λ going. looks-stands a b l (h.stands (sym l.failed ∙ going));
+}
+
 -- what a node keeps in a look and in a turn
 pub record NodeKeeps (a b : Node) : Type 0 where
   pub task : task_in b.operator ≡ task_in a.operator
+  pub number : b.number ≡ a.number
+  pub depth : b.depth ≡ a.depth
   pub child : (k : ℕ) (d : Port) → k < length a.ports.items → (get_or b.ports.items k d).child ≡
       (get_or a.ports.items k d).child
 
 pub looks-keeps : (a b : Node) → NodeLooks a b → NodeKeeps a b
-looks-keeps a b l = record { task = ap task_in l.operator; child = λ k d h. (l.ports k d h).child }
+looks-keeps a b l = record {
+  task = ap task_in l.operator;
+  number = l.number;
+  depth = l.depth;
+  child = λ k d h. (l.ports k d h).child;
+}
 
 pub moves-keeps : (a b : Node) → NodeMoves a b → NodeKeeps a b
-moves-keeps a b m = record { task = m.task; child = λ k d h. (m.ports k d h).child }
+moves-keeps a b m = record {
+  task = m.task;
+  number = m.number;
+  depth = m.depth;
+  child = λ k d h. (m.ports k d h).child;
+}
 
 -- a node without a task has no port, and nothing is pending with it
 pub no-task : (o : Option PlanOperator) → task_in o ≡ None → o ≡ None
@@ -91,7 +134,7 @@ no-more [] h = refl
 no-more (x ∷ xs) h = absurd (omega (arith, h))
 
 -- a turn of a source puts nothing
-pub source-turn : (a b : Node) → task_in a.operator ≡ None → IsCounted a → NodeStands a
+source-turn : (a b : Node) → task_in a.operator ≡ None → IsCounted a → NodeStands a
     → NodeMoves a b → Turned a b → sent b.outlet ≡ sent a.outlet
 source-turn a b t counted s m turned =
     let none : length a.ports.items ≡ 0 = sym counted.count ∙ ap ports_of t in
@@ -106,6 +149,15 @@ source-turn a b t counted s m turned =
     ) in
     m.puts.1 ∙ ap (λ (xs : List Message). sent a.outlet ++ xs) (no-more m.puts.0 more)
     ∙ append-nil (sent a.outlet)
+
+pub turned-source : (a b : Node) → task_in a.operator ≡ None → IsCounted a → NodeHolds a
+    → NodeTurned a b → sent b.outlet ≡ sent a.outlet
+turned-source a b t counted h turned =
+    elim (refused-or-going b) [
+      | inl e ↦ ap (λ (o : Outlet Message). sent o) (turned.kept e)
+      | inr e ↦ source-turn a b t counted (h.stands (has-gone a b turned e)) turned.moves
+          (turned.turned e)
+    ]
 
 -- ---- the plan at work stays wired
 
@@ -136,6 +188,28 @@ module _ (old new : ℕ → Node) (limit : ℕ) (counted : (k : ℕ) → k < lim
         child-kept j 0 (root_of a i) task there w.2 (omega (arith, p.1)) w.3,
         child-kept j 1 (root_of b (i + node_count a)) task there w.2 (omega (arith, p.1)) w.4,
       )
+
+  spot-kept : (k number depth : ℕ) → k < limit → IsSpot (old k) number depth
+      → IsSpot (new k) number depth
+  spot-kept k number depth h s = record {
+    number_is = (keeps k h).number ∙ s.number_is;
+    depth_is = (keeps k h).depth ∙ s.depth_is;
+  }
+
+  pub numbered-kept : (s : Shape) (i number depth : ℕ) → i + node_count s ≤ limit
+      → IsNumbered old s i number depth → IsNumbered new s i number depth
+  numbered-kept (Leaf source kinds) i number depth h w =
+      spot-kept i number depth (omega (arith, h)) w
+  numbered-kept (One task a) i number depth h w = (
+    numbered-kept a i (number + 1) (depth + 1) (omega (arith, h)) w.0,
+    spot-kept (i + node_count a) number depth (omega (arith, h)) w.1,
+  )
+  numbered-kept (Two task a b) i number depth h w = (
+    numbered-kept a i (number + 1) (depth + 1) (omega (arith, h)) w.0,
+    numbered-kept b (i + node_count a) (number + 1 + node_count a) (depth + 1) (omega (arith, h))
+        w.1,
+    spot-kept (i + (node_count a + node_count b)) number depth (omega (arith, h)) w.2,
+  )
 
   -- nothing was given where the sources put nothing
   pub gave-kept : (given : Lists) (s : Shape) (i n : ℕ) → i + node_count s ≤ limit
@@ -174,6 +248,9 @@ linked-moved old new count turned linked = record {
       let there : i < length (get_or old k d).ports.items = omega (arith, l, moves.count) in
       subst (λ (c : ℕ). c < k) (sym (moves.ports i e there).child)
       (linked.earlier k d i e small there);
+  deeper = deeper-kept old new count (λ k d h. (turned k d h).1.depth)
+      (λ k d h. (turned k d h).1.count)
+      (λ k d i e h l. ((turned k d h).1.ports i e l).child) linked;
   links = λ k d i e h l.
       let small : k < length old = omega (arith, h, count) in
       let moves = (turned k d small).1 in
@@ -195,6 +272,11 @@ pub record Renews (old new : PlanBox) : Type 0 where
   pub linked : IsLinked new.nodes.items
   pub top : new.top ≡ old.top
   pub leaves : new.leaves.items ≡ old.leaves.items
+  pub ended : new.ended ≡ old.ended
+  pub going : new.failed ≡ false → (k : ℕ) (d : Node) → k < length old.nodes.items
+      → (get_or new.nodes.items k d).failed ≡ false
+  pub depths : (k : ℕ) (d : Node) → k < length old.nodes.items
+      → (get_or new.nodes.items k d).depth ≡ (get_or old.nodes.items k d).depth
   pub outlets : (k : ℕ) (d : Node) → k < length old.nodes.items
       → SameOutlet (get_or old.nodes.items k d).outlet (get_or new.nodes.items k d).outlet
   pub puts : (k : ℕ) (d : Node) → k < length old.nodes.items → (more : List Message)
@@ -220,50 +302,63 @@ renews-sound old new r s = record {
       });
   leaves = λ k d h. subst (λ ls. k < length ls → (get_or ls k d).node < length new.nodes.items)
       (sym r.leaves) (λ l. omega (arith, s.leaves k d l, r.count)) h;
+  shallow = λ k d h.
+      let small : k < length old.nodes.items = omega (arith, h, r.count) in
+      omega (arith, s.shallow k d small, r.depths k d small);
+  ended_is = r.ended ∙ s.ended_is
+      ∙ ap (λ (i : Inlet Message). (run start_of_list (taken i)).ended) (sym r.top);
+  going = λ e k d h. r.going e k d (omega (arith, h, r.count));
 }
 
 pub renews-stands : (old new : PlanBox) → Renews old new → IsLinked old.nodes.items
     → ((k : ℕ) (d : Node) → k < length old.nodes.items → NodeKeeps (get_or old.nodes.items k d)
     (get_or new.nodes.items k d))
-    → ((k : ℕ) (d : Node) → k < length old.nodes.items → NodeStands (get_or old.nodes.items k d)
-    → NodeStands (get_or new.nodes.items k d))
-    → ((k : ℕ) (d : Node) → k < length old.nodes.items → NodeStands (get_or old.nodes.items k d)
+    → ((k : ℕ) (d : Node) → k < length old.nodes.items → NodeHolds (get_or old.nodes.items k d)
+    → NodeHolds (get_or new.nodes.items k d))
+    → ((k : ℕ) (d : Node) → k < length old.nodes.items → NodeHolds (get_or old.nodes.items k d)
     → task_in (get_or old.nodes.items k d).operator ≡ None
     → sent (get_or new.nodes.items k d).outlet ≡ sent (get_or old.nodes.items k d).outlet)
-    → new.failed ≡ false → (schemas : List (List Kind)) (plan : Plan) (given : Lists)
-    (got : List Message) → BoxStands old schemas plan given got
-    → BoxStands new schemas plan given got
-renews-stands old new r linked keeps stands sources going schemas plan given got b =
+    → (schemas : List (List Kind)) (plan : Plan) (given : Lists) (got : List Message)
+    → BoxStands old schemas plan given got → BoxStands new schemas plan given got
+renews-stands old new r linked keeps holds sources schemas plan given got b =
     let size : 0 + node_count (shape_of schemas plan) ≤ length old.nodes.items =
     omega (arith, b.count) in
     record {
-      going = going;
       count = r.count ∙ b.count;
+      few = b.few;
       wired = λ d.
           wired-kept (λ k. get_or old.nodes.items k d) (λ k. get_or new.nodes.items k d)
           (length old.nodes.items) (λ k h. linked.counted k d h) (λ k h. keeps k d h)
           (shape_of schemas plan) 0 size b.proper (b.wired d);
+      numbered = λ d.
+          numbered-kept (λ k. get_or old.nodes.items k d) (λ k. get_or new.nodes.items k d)
+          (length old.nodes.items) (λ k h. linked.counted k d h) (λ k h. keeps k d h)
+          (shape_of schemas plan) 0 0 0 size (b.numbered d);
       proper = b.proper;
-      stands = λ k d h. let small : k < length old.nodes.items =
-          omega (arith, h, r.count) in stands k d small (b.stands k d small);
+      holds = λ k d h. let small : k < length old.nodes.items =
+          omega (arith, h, r.count) in holds k d small (b.holds k d small);
       leaves_are = r.leaves ∙ b.leaves_are;
       gave = λ d.
           gave-kept (λ k. get_or old.nodes.items k d) (λ k. get_or new.nodes.items k d)
           (length old.nodes.items) (λ k h. linked.counted k d h) (λ k h. keeps k d h) given
           (shape_of schemas plan) 0 0 size
-          (λ k h t. sources k d h (b.stands k d h) t) (b.wired d) (b.gave d);
+          (λ k h t. sources k d h (b.holds k d h) t) (b.wired d) (b.gave d);
       fits = b.fits;
       got_is = b.got_is ∙ sym (ap (λ (i : Inlet Message). taken i) r.top);
     }
 
 -- the links were settled
-pub settled-renews : (old new : PlanBox) → Settles old.nodes.items new.nodes.items
-    (length old.nodes.items) 0 → new.top ≡ old.top → new.leaves ≡ old.leaves → Renews old new
-settled-renews old new s top leaves = record {
+pub settled-renews : (old new : PlanBox) → SettlesPorts old.nodes.items new.nodes.items
+    (length old.nodes.items) 0 → new.top ≡ old.top → new.leaves ≡ old.leaves
+    → new.ended ≡ old.ended → new.failed ≡ old.failed → IsSound old → Renews old new
+settled-renews old new s top leaves ended failed sound = record {
   count = s.count;
   linked = s.linked;
   top = top;
   leaves = ap (λ v. v.items) leaves;
+  ended = ended;
+  going = λ e k d h. (s.looks k d h).failed ∙ sound.going (sym failed ∙ e) k d h;
+  depths = λ k d h. (s.looks k d h).depth;
   outlets = λ k d h. (s.looks k d h).same_link;
   puts = λ k d h. (
     [],
@@ -272,30 +367,35 @@ settled-renews old new s top leaves = record {
   );
 }
 
-pub settled-stands : (old new : PlanBox) → IsSound old → Settles old.nodes.items new.nodes.items
+pub settled-stands : (old new : PlanBox) → IsSound old → SettlesPorts old.nodes.items
+    new.nodes.items
     (length old.nodes.items) 0 → new.top ≡ old.top → new.leaves ≡ old.leaves
-    → new.failed ≡ old.failed
+    → new.ended ≡ old.ended → new.failed ≡ old.failed
     → (schemas : List (List Kind)) (plan : Plan) (given : Lists) (got : List Message)
     → BoxStands old schemas plan given got → BoxStands new schemas plan given got
-settled-stands old new sound s top leaves failed schemas plan given got b =
-    renews-stands old new (settled-renews old new s top leaves) sound.linked
+settled-stands old new sound s top leaves ended failed schemas plan given got b =
+    renews-stands old new (settled-renews old new s top leaves ended failed sound) sound.linked
     (λ k d h. looks-keeps (get_or old.nodes.items k d) (get_or new.nodes.items k d)
     (s.looks k d h))
-    (λ k d h. looks-stands (get_or old.nodes.items k d) (get_or new.nodes.items k d)
-    (s.looks k d h)) (λ k d h n t. (s.looks k d h).sent) (failed ∙ b.going) schemas plan given
-    got b
+    (λ k d h. looks-holds (get_or old.nodes.items k d) (get_or new.nodes.items k d)
+    (s.looks k d h)) (λ k d h n t. (s.looks k d h).sent) schemas plan given got b
 
 -- the nodes were turned
 pub turned-renews : (old new : PlanBox) → IsSound old → length new.nodes.items ≡ length
     old.nodes.items → ((k : ℕ) (d : Node) → k < length old.nodes.items
     → NodeTurned (get_or old.nodes.items k d) (get_or new.nodes.items k d))
-    → new.top ≡ old.top → new.leaves ≡ old.leaves → Renews old new
-turned-renews old new sound count turned top leaves = record {
+    → new.top ≡ old.top → new.leaves ≡ old.leaves → new.ended ≡ old.ended
+    → (new.failed ≡ false → (k : ℕ) (d : Node) → k < length new.nodes.items
+    → (get_or new.nodes.items k d).failed ≡ false) → Renews old new
+turned-renews old new sound count turned top leaves ended going = record {
   count = count;
   linked = linked-moved old.nodes.items new.nodes.items count
       (λ k d h. ((turned k d h).counted, (turned k d h).moves)) sound.linked;
   top = top;
   leaves = ap (λ v. v.items) leaves;
+  ended = ended;
+  going = λ e k d h. going e k d (omega (arith, h, count));
+  depths = λ k d h. (turned k d h).moves.depth;
   outlets = λ k d h. (turned k d h).moves.same_link;
   puts = λ k d h. (turned k d h).moves.puts;
 }
@@ -303,22 +403,19 @@ turned-renews old new sound count turned top leaves = record {
 pub turned-stands : (old new : PlanBox) → IsSound old → length new.nodes.items ≡ length
     old.nodes.items → ((k : ℕ) (d : Node) → k < length old.nodes.items
     → NodeTurned (get_or old.nodes.items k d) (get_or new.nodes.items k d))
-    → new.top ≡ old.top → new.leaves ≡ old.leaves → new.failed ≡ false
-    → ((k : ℕ) (d : Node) → k < length new.nodes.items →
-    (get_or new.nodes.items k d).failed ≡ false)
+    → new.top ≡ old.top → new.leaves ≡ old.leaves → new.ended ≡ old.ended
+    → (new.failed ≡ false → (k : ℕ) (d : Node) → k < length new.nodes.items
+    → (get_or new.nodes.items k d).failed ≡ false)
     → (schemas : List (List Kind)) (plan : Plan) (given : Lists) (got : List Message)
     → BoxStands old schemas plan given got → BoxStands new schemas plan given got
-turned-stands old new sound count turned top leaves failed going schemas plan given got b =
-    let each : (k : ℕ) (d : Node) → k < length old.nodes.items
-    → Turned (get_or old.nodes.items k d) (get_or new.nodes.items k d) =
-    λ k d h. (turned k d h).turned (going k d (omega (arith, h, count))) in
-    renews-stands old new (turned-renews old new sound count turned top leaves) sound.linked
+turned-stands old new sound count turned top leaves ended going schemas plan given got b =
+    renews-stands old new (turned-renews old new sound count turned top leaves ended going)
+    sound.linked
     (λ k d h. moves-keeps (get_or old.nodes.items k d) (get_or new.nodes.items k d)
     (turned k d h).moves)
-    (λ k d h. (each k d h).stands)
-    (λ k d h n t. source-turn (get_or old.nodes.items k d) (get_or new.nodes.items k d) t
-    (sound.linked.counted k d h) n (turned k d h).moves (each k d h)) failed schemas plan given
-    got b
+    (λ k d h. (turned k d h).holds)
+    (λ k d h n t. turned-source (get_or old.nodes.items k d) (get_or new.nodes.items k d) t
+    (sound.linked.counted k d h) n (turned k d h)) schemas plan given got b
 
 -- the node at one place is looked at
 set-looks : (ns : List Node) (i : ℕ) (a : Node) → i < length ns
@@ -351,6 +448,8 @@ looks-linked old new count looks same linked = record {
       let small : k < length old = omega (arith, h, count) in
       subst (λ (p : Port). p.child < k) (sym (same k d i e small))
       (linked.earlier k d i e small (omega (arith, l, (looks k d small).count)));
+  deeper = deeper-kept old new count (λ k d h. (looks k d h).depth) (λ k d h. (looks k d h).count)
+      (λ k d i e h l. ((looks k d h).ports i e l).child) linked;
   links = λ k d i e h l.
       let small : k < length old = omega (arith, h, count) in
       let there : i < length (get_or old k d).ports.items = omega
@@ -381,6 +480,7 @@ pub record TopSettled (old new : PlanBox) (out : Outlet Message) : Type 0 where
   pub ends : AreEnds out new.top
   pub taken_same : taken new.top ≡ taken old.top
   pub leaves : new.leaves ≡ old.leaves
+  pub ended : new.ended ≡ old.ended
   pub failed : new.failed ≡ old.failed
 
 module _ (old new : PlanBox) (out : Outlet Message) (t : TopSettled old new out) (e0 : Node) where
@@ -438,6 +538,14 @@ module _ (old new : PlanBox) (out : Outlet Message) (t : TopSettled old new out)
         });
     leaves = λ k d h. subst (λ v. k < length v.items → (get_or v.items k d).node < length
         new.nodes.items) (sym t.leaves) (λ l. omega (arith, s.leaves k d l, top-count)) h;
+    shallow = λ k d h.
+        let small : k < length old.nodes.items = omega (arith, h, top-count) in
+        omega (arith, s.shallow k d small, (top-looks k d small).depth);
+    ended_is = t.ended ∙ s.ended_is
+        ∙ ap (λ (xs : List Message). (run start_of_list xs).ended) (sym t.taken_same);
+    going = λ e k d h.
+        let small : k < length old.nodes.items = omega (arith, h, top-count) in
+        (top-looks k d small).failed ∙ s.going (sym t.failed ∙ e) k d small;
   }
 
   pub top-stands : IsSound old → (schemas : List (List Kind)) (plan : Plan) (given : Lists)
@@ -447,18 +555,23 @@ module _ (old new : PlanBox) (out : Outlet Message) (t : TopSettled old new out)
       let size : 0 + node_count (shape_of schemas plan) ≤ length old.nodes.items =
       omega (arith, b.count) in
       record {
-        going = t.failed ∙ b.going;
         count = top-count ∙ b.count;
+        few = b.few;
         wired = λ d.
             wired-kept (λ k. get_or old.nodes.items k d) (λ k. get_or new.nodes.items k d)
             (length old.nodes.items) (λ k h. s.linked.counted k d h)
             (λ k h. looks-keeps (get_or old.nodes.items k d) (get_or new.nodes.items k d)
             (top-looks k d h)) (shape_of schemas plan) 0 size b.proper (b.wired d);
+        numbered = λ d.
+            numbered-kept (λ k. get_or old.nodes.items k d) (λ k. get_or new.nodes.items k d)
+            (length old.nodes.items) (λ k h. s.linked.counted k d h)
+            (λ k h. looks-keeps (get_or old.nodes.items k d) (get_or new.nodes.items k d)
+            (top-looks k d h)) (shape_of schemas plan) 0 0 0 size (b.numbered d);
         proper = b.proper;
-        stands = λ k d h.
+        holds = λ k d h.
             let small : k < length old.nodes.items = omega (arith, h, top-count) in
-            looks-stands (get_or old.nodes.items k d) (get_or new.nodes.items k d)
-            (top-looks k d small) (b.stands k d small);
+            looks-holds (get_or old.nodes.items k d) (get_or new.nodes.items k d)
+            (top-looks k d small) (b.holds k d small);
         leaves_are = ap (λ v. v.items) t.leaves ∙ b.leaves_are;
         gave = λ d.
             gave-kept (λ k. get_or old.nodes.items k d) (λ k. get_or new.nodes.items k d)
@@ -500,6 +613,7 @@ pub record TopTook (old new : PlanBox) (m : Message) : Type 0 where
   pub same_link : SameInlet old.top new.top
   pub taken_more : taken new.top ≡ taken old.top ++ m ∷ []
   pub known_less : known old.top ≡ m ∷ known new.top
+  pub ended : (p : Progress) → p.ended ≡ old.ended → new.ended ≡ (after p m).ended
 
 pub took-sound : (old new : PlanBox) (m : Message) → TopTook old new m → IsSound old → IsSound new
 took-sound old new m t s =
@@ -524,55 +638,33 @@ took-sound old new m t s =
       leaves = λ k d h. subst (λ v. (get_or new.leaves.items k d).node < length v.items)
           (sym t.nodes) (subst (λ v. k < length v.items → (get_or v.items k d).node < length
           old.nodes.items) (sym t.leaves) (λ l. s.leaves k d l) h);
+      shallow = subst (λ v. (k : ℕ) (d : Node) → k < length v.items
+          → (get_or v.items k d).depth ≤ 31)
+          (sym t.nodes) s.shallow;
+      ended_is = t.ended (run start_of_list (taken old.top)) (sym s.ended_is)
+          ∙ sym (ap (λ (xs : List Message). (run start_of_list xs).ended) t.taken_more
+          ∙ ap (λ (p : Progress). p.ended) (run-push start_of_list (taken old.top) m));
+      going = subst (λ v. new.failed ≡ false → (k : ℕ) (d : Node) → k < length v.items
+          → (get_or v.items k d).failed ≡ false) (sym t.nodes)
+          (λ e. s.going (sym t.failed ∙ e));
     }
 
 pub took-stands : (old new : PlanBox) (m : Message) → TopTook old new m
     → (schemas : List (List Kind)) (plan : Plan) (given : Lists) (got : List Message)
     → BoxStands old schemas plan given got → BoxStands new schemas plan given (got ++ m ∷ [])
 took-stands old new m t schemas plan given got b = record {
-  going = t.failed ∙ b.going;
   count = ap (λ v. length v.items) t.nodes ∙ b.count;
+  few = b.few;
   wired = subst (λ v. (d : Node) → IsWired (λ k. get_or v.items k d) (shape_of schemas plan) 0)
       (sym t.nodes) b.wired;
+  numbered = subst (λ v. (d : Node) → IsNumbered (λ k. get_or v.items k d) (shape_of schemas plan) 0
+      0 0) (sym t.nodes) b.numbered;
   proper = b.proper;
-  stands = subst (λ v. (k : ℕ) (d : Node) → k < length v.items → NodeStands (get_or v.items k d))
-      (sym t.nodes) b.stands;
+  holds = subst (λ v. (k : ℕ) (d : Node) → k < length v.items → NodeHolds (get_or v.items k d))
+      (sym t.nodes) b.holds;
   leaves_are = ap (λ v. v.items) t.leaves ∙ b.leaves_are;
   gave = subst (λ v. (d : Node) → LeavesGave (λ k. get_or v.items k d) (shape_of schemas plan) 0 0
       given) (sym t.nodes) b.gave;
   fits = b.fits;
   got_is = ap (λ (xs : List Message). xs ++ m ∷ []) b.got_is ∙ sym t.taken_more;
 }
-
--- whether a message was taken from the top or none
-pub take-sound : (old new : PlanBox) (r : Option Message) → IfSome r
-    (λ m. taken new.top ≡ taken old.top ++ m ∷ []) → IfSome r
-    (λ m. known old.top ≡ m ∷ known new.top) → IfNone r ((new.top ≡ old.top)
-    × (length (known old.top) ≡ 0))
-    → SameInlet old.top new.top → new.nodes ≡ old.nodes → new.leaves ≡ old.leaves
-    → new.failed ≡ old.failed → IsSound old → IsSound new
-take-sound old new (Some m) more less none same nodes leaves failed s =
-    took-sound old new m (record {
-      nodes = nodes;
-      leaves = leaves;
-      failed = failed;
-      same_link =
-          same;
-      taken_more = more;
-      known_less = less;
-    }) s
-take-sound old new None more less none same nodes leaves failed s =
-    renews-sound old new (record {
-      count = ap (λ v. length v.items) nodes;
-      linked = subst (λ v. IsLinked v.items) (sym nodes) s.linked;
-      top = none.0;
-      leaves = ap (λ v. v.items) leaves;
-      outlets = λ k d h. subst (λ v. SameOutlet (get_or old.nodes.items k d).outlet
-          (get_or v.items k d).outlet) (sym nodes) (same_outlet_self
-          (get_or old.nodes.items k d).outlet);
-      puts = λ k d h. (
-        [],
-        ap (λ v. sent (get_or v.items k d).outlet) nodes
-            ∙ sym (append-nil (sent (get_or old.nodes.items k d).outlet)),
-      );
-    }) s

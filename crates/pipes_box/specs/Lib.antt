@@ -6,6 +6,7 @@ pub mod Nodes
 pub mod Shapes
 pub mod Prompt
 pub mod Networks
-pub mod Rounds
 pub mod Parts
 pub mod Boxes
+pub mod Backlog
+pub mod Rounds

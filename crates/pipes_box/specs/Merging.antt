@@ -21,5 +21,5 @@ MergedAll old level more now next =
     (p : Progress) → (run p old).beat ≡ level → ValidFrom p (old ++ more)
     → SaysFrom p (old ++ more) now × ((run p now).beat ≡ next)
 
-abbrev pub Merged : List Message → ℕ → Message → List Message → ℕ → Type 0
-Merged old level m now next = MergedAll old level (m ∷ []) now next
+abbrev pub MergedOne : List Message → ℕ → Message → List Message → ℕ → Type 0
+MergedOne old level m now next = MergedAll old level (m ∷ []) now next

@@ -23,12 +23,16 @@ pub record EndsHold (outlet : Outlet Message) (inlet : Inlet Message) : Type 0 w
 abbrev pub LinkHolds : Outlet Message → Port → Type 0
 LinkHolds outlet p = EndsHold outlet p.inlet
 
--- each port's link holds, from the outlet of an earlier node
+-- each port's link holds, from the outlet of an earlier node, which is one deeper
 pub record IsLinked (nodes : List Node) : Type 0 where
   pub counted : (k : ℕ) (d : Node) → k < length nodes → IsCounted (get_or nodes k d)
   pub earlier : (k : ℕ) (d : Node) (i : ℕ) (e : Port) → k < length nodes
       → i < length (get_or nodes k d).ports.items
       → (get_or (get_or nodes k d).ports.items i e).child < k
+  pub deeper : (k : ℕ) (d : Node) (i : ℕ) (e : Port) → k < length nodes
+      → i < length (get_or nodes k d).ports.items
+      → (get_or nodes (get_or (get_or nodes k d).ports.items i e).child d).depth
+      ≡ (get_or nodes k d).depth + 1
   pub links : (k : ℕ) (d : Node) (i : ℕ) (e : Port) → k < length nodes
       → i < length (get_or nodes k d).ports.items
       → LinkHolds (get_or nodes (get_or (get_or nodes k d).ports.items i e).child d).outlet
@@ -56,6 +60,21 @@ IsWired node (Two task a b) i =
     × ChildAt (node (i + (node_count a + node_count b))) 0 (root_of a i)
     × ChildAt (node (i + (node_count a + node_count b))) 1 (root_of b (i + node_count a))
 
+-- a node of this number at this depth
+pub record IsSpot (n : Node) (number depth : ℕ) : Type 0 where
+  pub number_is : n.number ≡ number
+  pub depth_is : n.depth ≡ depth
+
+-- The nodes from i on are those of the plan: numbered in preorder from `number` on, and each at its
+-- depth, the root at `depth`.
+abbrev pub IsNumbered : (ℕ → Node) → Shape → ℕ → ℕ → ℕ → Type 0
+IsNumbered node (Leaf source kinds) i number depth = IsSpot (node i) number depth
+IsNumbered node (One task a) i number depth = IsNumbered node a i (number + 1) (depth + 1)
+    × IsSpot (node (i + node_count a)) number depth
+IsNumbered node (Two task a b) i number depth = IsNumbered node a i (number + 1) (depth + 1)
+    × IsNumbered node b (i + node_count a) (number + 1 + node_count a) (depth + 1)
+    × IsSpot (node (i + (node_count a + node_count b))) number depth
+
 -- what was given at the leaves, which are numbered from n on, is what was put into the outlets of
 -- their nodes
 abbrev pub LeavesGave : (ℕ → Node) → Shape → ℕ → ℕ → Lists → Type 0
@@ -82,7 +101,7 @@ pub record PortSettled (old new : List Node) (parent port : ℕ) : Type 0 where
 
 -- the links of the ports before this one were settled: those of earlier nodes, and this node's
 -- earlier ports
-pub record Settles (old new : List Node) (parent port : ℕ) : Type 0 where
+pub record SettlesPorts (old new : List Node) (parent port : ℕ) : Type 0 where
   pub count : length new ≡ length old
   pub looks : (k : ℕ) (d : Node) → k < length old → NodeLooks (get_or old k d) (get_or new k d)
   pub linked : IsLinked new

@@ -1,13 +1,13 @@
 -- What a node stands for, and what a turn does.
 use Rattle.std.specs.Prelude.{◌≡◌, ℕ, ◌+◌, ◌-◌, ◌^◌, min, ◌<◌, ◌≤◌, true, false, List, [], ◌∷◌}
-use Rattle.std.specs.Prelude.{◌++◌, length, get_or, Option, Some, None, Bool}
+use Rattle.std.specs.Prelude.{◌++◌, length, get_or, Option, Some, None, Bool, ⊤}
 use Rattle.std.specs.Bool.{OnTrue, OnFalse}
 use Rattle.std.specs.List.{sum_by}
 use Rattle.pipes_tuple.specs.declared.value.Kind.{Kind}
 use Rattle.pipes_stream.specs.declared.message.Message.{Message}
 use Rattle.pipes_stream.specs.Progress.{Progress}
 use Rattle.pipes_stream.specs.Lists.{after, run, start_of_list}
-use Rattle.pipes_stream.specs.Lawful.{Lists, Task, with_message}
+use Rattle.pipes_stream.specs.Lawful.{Lists, Task, Lawful, with_message}
 use Rattle.pipes_link.specs.Ends.{sent, spare, taken, known, ready, SameOutlet, SameInlet}
 use Rattle.pipes_box.specs.declared.operator.PlanOperator.{PlanOperator}
 use Rattle.pipes_box.specs.declared.port.Port.{Port}
@@ -83,6 +83,33 @@ pub record NodeStands (n : Node) : Type 0 where
       → kinds_at (task_in n.operator) k ≡ (get_or n.ports.items k d).schema
   pub emits : EmitsIn n.operator passed (sent n.outlet) n.pending.items
 
+-- the messages that passed at the port begin with these
+abbrev pub PassedFirst : Port → List Message → Type 0
+PassedFirst p passed = (rest : List Message)
+    × Passes p.schema start_of_list (taken p.inlet) (passed ++ rest)
+
+-- what was put is a prefix of what the task owes for the messages that passed; a source owes
+-- nothing
+abbrev pub PutOf : Option Task → Lists → List Message → Type 0
+PutOf None passed put = ⊤
+PutOf (Some task) passed put =
+    (rest : List Message) × (held : ℕ) × Lawful task passed (put ++ rest) held
+
+-- What stands of a node after out of memory too: what it put is a prefix of what its task owes for
+-- the first of the messages that passed.
+pub record NodeStood (n : Node) : Type 0 where
+  pub passed : Lists
+  pub ports : (k : ℕ) (d : Port) → k < length n.ports.items
+      → PassedFirst (get_or n.ports.items k d) (passed k)
+  pub kinds : (k : ℕ) (d : Port) → k < length n.ports.items
+      → kinds_at (task_in n.operator) k ≡ (get_or n.ports.items k d).schema
+  pub puts : PutOf (task_in n.operator) passed (sent n.outlet)
+
+-- what holds of a node of a plan at work, whatever its turns answered
+pub record NodeHolds (n : Node) : Type 0 where
+  pub stood : NodeStood n
+  pub stands : n.failed ≡ false → NodeStands n
+
 -- the messages known to wait at all ports
 abbrev pub total_ready : List Port → ℕ
 total_ready ports = sum_by (λ p. ready p.inlet) ports
@@ -126,11 +153,11 @@ IsDrained n port = (d : Port) → port < length n.ports.items → ready
 -- What a turn does where no memory is refused: it takes all that is known to wait, and puts what is
 -- pending while there is room.
 pub record Turned (old new : Node) : Type 0 where
-  pub stands : NodeStands old → NodeStands new
   pub drained : total_ready new.ports.items ≡ 0
   -- how many messages it put
   pub put : ℕ
   pub sent : length (sent new.outlet) ≡ length (sent old.outlet) + put
+  pub took : new.took ≡ total_ready old.ports.items
   pub moved : new.moved ≡ min (total_ready old.ports.items + put) (2 ^ 64 - 1)
   -- where it took nothing, what is pending grows by nothing, and is put if there is room
   pub kept : total_ready old.ports.items ≡ 0
@@ -143,7 +170,10 @@ pub record Turned (old new : Node) : Type 0 where
 pub record NodeTurned (old new : Node) : Type 0 where
   pub counted : IsCounted new
   pub moves : NodeMoves old new
+  pub holds : NodeHolds old → NodeHolds new
   pub turned : new.failed ≡ false → Turned old new
+  -- without memory it puts nothing
+  pub kept : new.failed ≡ true → new.outlet ≡ old.outlet
   pub stays_failed : old.failed ≡ true → new.failed ≡ true
 
 -- A look at the other ends of a node's links: nothing is taken or put, and no message or place that

@@ -1,5 +1,6 @@
 -- A plan as the tasks of its nodes, and what it means over lists given at its leaves.
-use Rattle.std.specs.Prelude.{◌≡◌, ℕ, ◌+◌, ◌<◌, Bool, true, false, ◌&&◌, cond, eqb, List, [], ◌++◌}
+use Rattle.std.specs.Prelude.{◌≡◌, ℕ, ◌+◌, ◌<◌, Bool, true, false, ◌&&◌, cond, eqb, List, []}
+use Rattle.std.specs.Prelude.{◌∷◌, ◌++◌}
 use Rattle.std.specs.Prelude.{slice_get, unwrap_or}
 use Rattle.std.specs.List.{All}
 use Rattle.pipes_tuple.specs.declared.value.Value.{Value}
@@ -66,6 +67,12 @@ abbrev pub leaf_count : Shape → ℕ
 leaf_count (Leaf source kinds) = 1
 leaf_count (One task a) = leaf_count a
 leaf_count (Two task a b) = leaf_count a + leaf_count b
+
+-- the numbers of its leaves' sources, in preorder
+abbrev pub sources_of : Shape → List ℕ
+sources_of (Leaf source kinds) = source ∷ []
+sources_of (One task a) = sources_of a
+sources_of (Two task a b) = sources_of a ++ sources_of b
 
 abbrev pub two_bags : List (List Value) → List (List Value) → ℕ → List (List Value)
 two_bags left right port = cond (eqb port 0) left right

@@ -1,13 +1,14 @@
 // A plan's nodes and links are made.
-ghost use Rattle.std.specs.Prelude.{◌≡◌, ◌≤◌, ◌<◌, ◌+◌, ◌++◌, [], ◌∷◌, true, length, IfOk, Some};
-ghost use Rattle.std.specs.Prelude.{None};
+ghost use Rattle.std.specs.Prelude.{◌≡◌, ◌≤◌, ◌<◌, ◌+◌, ◌++◌, [], ◌∷◌, true, length, IfOk};
+ghost use Rattle.std.specs.Prelude.{OnOk, Some, None};
 ghost use Rattle.pipes_link.specs.declared.TheConstants.{MOST_ROOM};
 ghost use Rattle.pipes_plan.specs.PlanKinds.{IsTyped, plan_kinds};
 ghost use Rattle.pipes_plan.specs.Sizes.{plan_nodes, plan_depth};
 ghost use Rattle.pipes_box.specs.Operators.{task_of};
 ghost use Rattle.pipes_box.specs.Nodes.{ports_of, task_in};
 ghost use Rattle.pipes_box.specs.Shapes.{is_built};
-ghost use Rattle.pipes_box.specs.Parts.{Adds, AddsOver, AddsTask, IsPortOf, PartBuilt};
+ghost use Rattle.pipes_box.specs.Parts.{Adds, AddsOver, AddsTask, CanBuild, IsPortOf};
+ghost use Rattle.pipes_box.specs.Parts.{PartBuilt};
 ghost use Rattle.pipes_flat.specs.Tasks.{filter_task, map_task, union_task};
 ghost use Rattle.pipes_plan.specs.declared.plan.Plan.TheVariants as plans;
 
@@ -34,7 +35,7 @@ pub(crate) struct Part {
     pub(crate) root: usize,
 }
 
-// Where a node of the plan stands, and how much room its outlet's link has.
+// Where a node is in its plan, and how much room its outlet's link has.
 #[derive(Clone, Copy, Drop)]
 pub(crate) struct Spot {
     pub(crate) alloc: Global,
@@ -46,25 +47,21 @@ pub(crate) struct Spot {
 }
 
 impl Spot {
-    // The next node in preorder.
-    fn enter(self, next: &mut u32) -> Spot {
+    // The next node in preorder, which is a child of this one.
+    fn child(self, next: &mut u32) -> Spot
+        requires numbers { next.old < 1000 }
+        requires shallow { self.depth ≤ 31 }
+        ensures number { result.number ≡ next.old }
+        ensures depth { result.depth ≡ self.depth + 1 }
+        ensures next { next.new ≡ next.old + 1 }
+    {
         let number = *next;
-        *next = number.saturating_add(1);
+        *next = number + 1;
         Spot {
             alloc: self.alloc,
             room: self.room,
             number,
-            depth: self.depth,
-        }
-    }
-
-    // Where its children stand.
-    fn below(self) -> Spot {
-        Spot {
-            alloc: self.alloc,
-            room: self.room,
-            number: self.number,
-            depth: self.depth.saturating_add(1),
+            depth: self.depth + 1,
         }
     }
 }
@@ -90,8 +87,8 @@ fn add_node(
     operator: Option<PlanOperator>,
     ports: Vec<Port>,
 ) -> Result<Inlet<Message>, Memory>
-    ensures { IfOk result (λ inlet. Adds nodes.old.items nodes.new.items operator ports.items
-        inlet) }
+    ensures { IfOk result (λ inlet. Adds spot.number spot.depth nodes.old.items nodes.new.items
+        operator ports.items inlet) }
 {
     let (outlet, inlet) = link(spot.alloc, spot.room)?;
     nodes.push(Node {
@@ -102,6 +99,7 @@ fn add_node(
         outlet,
         pending: VecDeque::new(spot.alloc),
         fresh: Vec::new(spot.alloc),
+        took: 0,
         moved: 0,
         failed: false,
     })?;
@@ -116,7 +114,8 @@ fn add_source(
     source: u32,
     schema: Schema,
 ) -> Result<Part, Memory>
-    ensures nodes { IfOk result (λ part. Adds nodes.old.items nodes.new.items None [] part.inlet) }
+    ensures nodes { IfOk result (λ part. Adds spot.number spot.depth nodes.old.items
+        nodes.new.items None [] part.inlet) }
     ensures root { IfOk result (λ part. part.root ≡ length nodes.old.items) }
     ensures schema { IfOk result (λ part. part.schema ≡ schema) }
     ensures leaves { IfOk result (λ part. leaves.new.items ≡ leaves.old.items
@@ -140,8 +139,8 @@ fn add_one(
     part: Part,
     schema: Schema,
 ) -> Result<Part, Memory>
-    ensures nodes { IfOk result (λ whole. AddsOver nodes.old.items nodes.new.items operator
-        (part ∷ []) whole.inlet) }
+    ensures nodes { IfOk result (λ whole. AddsOver spot.number spot.depth nodes.old.items
+        nodes.new.items operator (part ∷ []) whole.inlet) }
     ensures root { IfOk result (λ whole. whole.root ≡ length nodes.old.items) }
     ensures schema { IfOk result (λ whole. whole.schema ≡ schema) }
 {
@@ -164,8 +163,8 @@ fn add_two(
     right: Part,
     schema: Schema,
 ) -> Result<Part, Memory>
-    ensures nodes { IfOk result (λ whole. AddsOver nodes.old.items nodes.new.items operator
-        (left ∷ right ∷ []) whole.inlet) }
+    ensures nodes { IfOk result (λ whole. AddsOver spot.number spot.depth nodes.old.items
+        nodes.new.items operator (left ∷ right ∷ []) whole.inlet) }
     ensures root { IfOk result (λ whole. whole.root ≡ length nodes.old.items) }
     ensures schema { IfOk result (λ whole. whole.schema ≡ schema) }
 {
@@ -179,25 +178,25 @@ fn add_two(
     })
 }
 
-// A filter over a part.
+// A filter over a part, which sends tuples of the schema.
 fn filter_over(
     spot: Spot,
     condition: &Expr,
     part: Part,
+    schema: Schema,
     nodes: &mut Vec<Node>,
 ) -> Result<Part, Memory>
     requires { IsTyped (plans.Filter condition.now (plans.Source 0)) (part.schema ∷ []) }
-    ensures adds { IfOk result (λ whole. AddsTask nodes.old.items nodes.new.items
-        (filter_task condition.now part.schema) (part ∷ []) whole) }
-    ensures schema { IfOk result (λ whole. whole.schema ≡ part.schema) }
+    ensures adds { IfOk result (λ whole. AddsTask spot.number spot.depth nodes.old.items
+        nodes.new.items (filter_task condition.now part.schema) (part ∷ []) whole) }
+    ensures schema { IfOk result (λ whole. whole.schema ≡ schema) }
 {
     let condition = condition.copy(spot.alloc)?;
     let filter = Filter::new(condition, part.schema.copy()?)?;
-    let schema = part.schema.copy()?;
     add_one(spot, nodes, PlanOperator::Filter(filter), part, schema)
 }
 
-// A map over a part, whose tuples are of the schema.
+// A map over a part, which sends tuples of the schema.
 fn map_over(
     spot: Spot,
     exprs: &Exprs,
@@ -206,8 +205,8 @@ fn map_over(
     nodes: &mut Vec<Node>,
 ) -> Result<Part, Memory>
     requires { IsTyped (plans.Map exprs.now (plans.Source 0)) (part.schema ∷ []) }
-    ensures adds { IfOk result (λ whole. AddsTask nodes.old.items nodes.new.items
-        (map_task exprs.now part.schema) (part ∷ []) whole) }
+    ensures adds { IfOk result (λ whole. AddsTask spot.number spot.depth nodes.old.items
+        nodes.new.items (map_task exprs.now part.schema) (part ∷ []) whole) }
     ensures schema { IfOk result (λ whole. whole.schema ≡ schema) }
 {
     let exprs = copy_exprs(spot.alloc, exprs)?;
@@ -215,16 +214,21 @@ fn map_over(
     add_one(spot, nodes, PlanOperator::Map(map), part, schema)
 }
 
-// A union of two parts.
-fn union_over(spot: Spot, left: Part, right: Part, nodes: &mut Vec<Node>) -> Result<Part, Memory>
+// A union of two parts, which sends tuples of the schema.
+fn union_over(
+    spot: Spot,
+    left: Part,
+    right: Part,
+    schema: Schema,
+    nodes: &mut Vec<Node>,
+) -> Result<Part, Memory>
     requires { IsTyped (plans.Union (plans.Source 0) (plans.Source 1))
-        (left.schema ∷ left.schema ∷ []) }
-    ensures adds { IfOk result (λ whole. AddsTask nodes.old.items nodes.new.items
-        (union_task left.schema) (left ∷ right ∷ []) whole) }
-    ensures schema { IfOk result (λ whole. whole.schema ≡ left.schema) }
+        (left.schema ∷ right.schema ∷ []) }
+    ensures adds { IfOk result (λ whole. AddsTask spot.number spot.depth nodes.old.items
+        nodes.new.items (union_task left.schema) (left ∷ right ∷ []) whole) }
+    ensures schema { IfOk result (λ whole. whole.schema ≡ schema) }
 {
     let union = Union::new(spot.alloc, left.schema.copy()?)?;
-    let schema = left.schema.copy()?;
     add_two(spot, nodes, PlanOperator::Union(union), left, right, schema)
 }
 
@@ -239,8 +243,9 @@ fn source_at(
 ) -> Result<Part, Memory>
     requires typed { IsTyped plan.now schemas.now }
     requires source { plan.now ≡ plans.Source source }
-    ensures { IfOk result (λ part. PartBuilt schemas.now plan.now nodes.old.items nodes.new.items
-        leaves.old.items leaves.new.items part) }
+    requires shallow { spot.depth ≤ 31 }
+    ensures { IfOk result (λ part. PartBuilt schemas.now plan.now spot.number spot.depth
+        nodes.old.items nodes.new.items leaves.old.items leaves.new.items part) }
 {
     let schema = schemas.as_slice()[source as usize].copy()?;
     let part = add_source(spot, nodes, leaves, source, schema)?;
@@ -257,7 +262,85 @@ fn schema_of(alloc: Global, plan: &Plan, schemas: &Schemas) -> Result<Schema, Me
     }
 }
 
-// Makes the nodes of a plan, children before their parents, and their links.
+// Makes the nodes of a filter, and their links.
+#[cycle(build_at)]
+fn build_filter(
+    spot: Spot,
+    next: &mut u32,
+    plan: &Plan,
+    condition: &Expr,
+    a: &Plan,
+    schemas: &Schemas,
+    nodes: &mut Vec<Node>,
+    leaves: &mut Vec<Leaf>,
+) -> Result<Part, Memory>
+    requires is { plan.now ≡ plans.Filter condition.now a.now }
+    requires can { CanBuild schemas.now plan.now spot.number spot.depth next.old }
+    ensures built { IfOk result (λ part. PartBuilt schemas.now plan.now spot.number spot.depth
+        nodes.old.items nodes.new.items leaves.old.items leaves.new.items part) }
+    ensures next { OnOk result (next.new ≡ spot.number + plan_nodes plan.now) }
+{
+    let below = spot.child(next);
+    let part = build_at(below, next, a, schemas, nodes, leaves)?;
+    let schema = schema_of(spot.alloc, plan, schemas)?;
+    let whole = filter_over(spot, condition, part, schema, nodes)?;
+    Ok(whole)
+}
+
+// Makes the nodes of a map, and their links.
+#[cycle(build_at)]
+fn build_map(
+    spot: Spot,
+    next: &mut u32,
+    plan: &Plan,
+    exprs: &Exprs,
+    a: &Plan,
+    schemas: &Schemas,
+    nodes: &mut Vec<Node>,
+    leaves: &mut Vec<Leaf>,
+) -> Result<Part, Memory>
+    requires is { plan.now ≡ plans.Map exprs.now a.now }
+    requires can { CanBuild schemas.now plan.now spot.number spot.depth next.old }
+    ensures built { IfOk result (λ part. PartBuilt schemas.now plan.now spot.number spot.depth
+        nodes.old.items nodes.new.items leaves.old.items leaves.new.items part) }
+    ensures next { OnOk result (next.new ≡ spot.number + plan_nodes plan.now) }
+{
+    let below = spot.child(next);
+    let part = build_at(below, next, a, schemas, nodes, leaves)?;
+    let schema = schema_of(spot.alloc, plan, schemas)?;
+    let whole = map_over(spot, exprs, part, schema, nodes)?;
+    Ok(whole)
+}
+
+// Makes the nodes of a union, and their links.
+#[cycle(build_at)]
+fn build_union(
+    spot: Spot,
+    next: &mut u32,
+    plan: &Plan,
+    a: &Plan,
+    b: &Plan,
+    schemas: &Schemas,
+    nodes: &mut Vec<Node>,
+    leaves: &mut Vec<Leaf>,
+) -> Result<Part, Memory>
+    requires is { plan.now ≡ plans.Union a.now b.now }
+    requires can { CanBuild schemas.now plan.now spot.number spot.depth next.old }
+    ensures built { IfOk result (λ part. PartBuilt schemas.now plan.now spot.number spot.depth
+        nodes.old.items nodes.new.items leaves.old.items leaves.new.items part) }
+    ensures next { OnOk result (next.new ≡ spot.number + plan_nodes plan.now) }
+{
+    let first = spot.child(next);
+    let left = build_at(first, next, a, schemas, nodes, leaves)?;
+    let second = spot.child(next);
+    let right = build_at(second, next, b, schemas, nodes, leaves)?;
+    let schema = schema_of(spot.alloc, plan, schemas)?;
+    let whole = union_over(spot, left, right, schema, nodes)?;
+    Ok(whole)
+}
+
+// Makes the nodes of a plan, children before their parents, and their links. The root has its spot,
+// and `next` is the number after it.
 #[cycle(build_at)]
 pub(crate) fn build_at(
     spot: Spot,
@@ -267,29 +350,21 @@ pub(crate) fn build_at(
     nodes: &mut Vec<Node>,
     leaves: &mut Vec<Leaf>,
 ) -> Result<Part, Memory>
-    requires { IsTyped plan.now schemas.now }
-    ensures { IfOk result (λ part. PartBuilt schemas.now plan.now nodes.old.items nodes.new.items
-        leaves.old.items leaves.new.items part) }
+    requires { CanBuild schemas.now plan.now spot.number spot.depth next.old }
+    ensures built { IfOk result (λ part. PartBuilt schemas.now plan.now spot.number spot.depth
+        nodes.old.items nodes.new.items leaves.old.items leaves.new.items part) }
+    ensures next { OnOk result (next.new ≡ spot.number + plan_nodes plan.now) }
 {
-    let spot = spot.enter(next);
     match plan {
         Plan::Source(source) => source_at(spot, plan, *source, schemas, nodes, leaves),
         Plan::Filter(condition, a) => {
-            let part = build_at(spot.below(), next, a.get(), schemas, nodes, leaves)?;
-            let whole = filter_over(spot, condition, part, nodes)?;
-            Ok(whole)
+            build_filter(spot, next, plan, condition, a.get(), schemas, nodes, leaves)
         }
         Plan::Map(exprs, a) => {
-            let part = build_at(spot.below(), next, a.get(), schemas, nodes, leaves)?;
-            let schema = schema_of(spot.alloc, plan, schemas)?;
-            let whole = map_over(spot, exprs, part, schema, nodes)?;
-            Ok(whole)
+            build_map(spot, next, plan, exprs, a.get(), schemas, nodes, leaves)
         }
         Plan::Union(a, b) => {
-            let left = build_at(spot.below(), next, a.get(), schemas, nodes, leaves)?;
-            let right = build_at(spot.below(), next, b.get(), schemas, nodes, leaves)?;
-            let whole = union_over(spot, left, right, nodes)?;
-            Ok(whole)
+            build_union(spot, next, plan, a.get(), b.get(), schemas, nodes, leaves)
         }
         _ => Err(Memory),
     }

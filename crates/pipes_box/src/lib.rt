@@ -9,7 +9,9 @@ mod operator;
 mod plan_box;
 mod port;
 mod settling;
+mod sums;
 mod turning;
+mod working;
 
 pub use leaf::Leaf;
 pub use node::Node;

@@ -1,7 +1,7 @@
 // Messages appended to those that are pending, without the heartbeats that say nothing more.
 ghost use Rattle.std.specs.Prelude.{◌≡◌, [], OnOk, OnErr};
 ghost use Rattle.pipes_stream.specs.Lists.{beat};
-ghost use Rattle.pipes_box.specs.Merging.{Merged, MergedAll, brought};
+ghost use Rattle.pipes_box.specs.Merging.{MergedOne, MergedAll, brought};
 
 use pipes_stream::Message;
 use pipes_time::{CLOSED, Memory};
@@ -25,7 +25,7 @@ fn append_merged(
     level: &mut u64,
     message: Message,
 ) -> Result<(), Memory>
-    ensures merged { OnOk result (Merged pending.old.items level.old message pending.new.items
+    ensures merged { OnOk result (MergedOne pending.old.items level.old message pending.new.items
         level.new) }
     ensures memory { OnErr result ((pending.new.items ≡ pending.old.items)
         × (level.new ≡ level.old)) }

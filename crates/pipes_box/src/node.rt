@@ -1,6 +1,6 @@
 // A node of a plan at work.
 ghost use Rattle.std.specs.Prelude.{◌≡◌, ◌≤◌, ◌<◌, ◌+◌, ◌-◌, ◌^◌, min, ◌++◌, [], ◌∷◌, length, List};
-ghost use Rattle.std.specs.Prelude.{IfOk, IsErr, OnOk, OnErr, true, false};
+ghost use Rattle.std.specs.Prelude.{IfOk, IsErr, OnOk, OnErr, true, false, cond, eqb};
 ghost use Rattle.std.specs.Bool.{OnTrue, OnFalse};
 ghost use Rattle.pipes_stream.specs.declared.message.Message.{Message as Sent};
 ghost use Rattle.pipes_stream.specs.Lawful.{Lists, CanTake, with_message};
@@ -10,7 +10,7 @@ ghost use Rattle.pipes_box.specs.Nodes.{Emits};
 
 use crate::merging::move_merged;
 use crate::operator::PlanOperator;
-use crate::port::Port;
+use crate::port::{Port, total_known};
 use pipes_edge::Gate;
 use pipes_link::Outlet;
 use pipes_stream::{Message, Operator};
@@ -29,6 +29,8 @@ pub struct Node {
     pub(crate) outlet: Outlet<Message>,
     pub(crate) pending: VecDeque<Message>,
     pub(crate) fresh: Vec<Message>,
+    // how many messages it took, and moved, in its last turn
+    pub(crate) took: u64,
     pub(crate) moved: u64,
     pub(crate) failed: bool,
 }
@@ -55,9 +57,10 @@ fn send_for(
 }
 
 impl Node {
+    ghost use Rattle.pipes_box.specs.Backlog.{lowered_by, pends_with};
     ghost use Rattle.pipes_box.specs.Nodes.{IsCounted, IsDrained, held_in, EmitsMore, Turned};
-    ghost use Rattle.pipes_box.specs.Nodes.{NodeMoves, NodeStands, NodeWorks, total_ready, task_in};
-    ghost use Rattle.pipes_box.specs.Nodes.{ports_of};
+    ghost use Rattle.pipes_box.specs.Nodes.{NodeMoves, NodeStands, NodeStood, NodeHolds, NodeWorks};
+    ghost use Rattle.pipes_box.specs.Nodes.{total_ready, task_in, ports_of};
 
     // Lets the operator take a message that passed at a port. A source has no port, and so takes
     // none.
@@ -81,6 +84,7 @@ impl Node {
         ensures counted { IsCounted self.new }
         ensures moves { NodeMoves self.old self.new }
         ensures stands { OnOk result (NodeStands self.old → NodeStands self.new) }
+        ensures stood { OnErr result (NodeStands self.old → NodeStood self.new) }
         ensures took { IfOk result (λ took. OnTrue took
             (total_ready self.old.ports.items ≡ total_ready self.new.ports.items + 1)) }
         ensures none { IfOk result (λ took. OnFalse took (IsDrained self.new port)) }
@@ -107,6 +111,7 @@ impl Node {
         ensures counted { IsCounted self.new }
         ensures moves { NodeMoves self.old self.new }
         ensures stands { OnOk result (NodeStands self.old → NodeStands self.new) }
+        ensures stood { OnErr result (NodeStands self.old → NodeStood self.new) }
         ensures number { IfOk result (λ taken. total_ready self.old.ports.items ≡ total_ready
             self.new.ports.items + taken) }
         ensures drained { OnOk result (IsDrained self.new port) }
@@ -127,6 +132,7 @@ impl Node {
         ensures counted { IsCounted self.new }
         ensures moves { NodeMoves self.old self.new }
         ensures stands { OnOk result (NodeStands self.old → NodeStands self.new) }
+        ensures stood { OnErr result (NodeStands self.old → NodeStood self.new) }
         ensures number { IfOk result (λ taken. total_ready self.old.ports.items ≡ taken) }
         ensures drained { OnOk result (total_ready self.new.ports.items ≡ 0) }
         ensures idle { IfOk result (λ taken. taken ≡ 0 → self.new.pending ≡ self.old.pending) }
@@ -206,15 +212,62 @@ impl Node {
         }
     }
 
+    // How many messages it knows to wait at its ports.
+    fn ready(&self) -> u64
+        requires { length self.now.ports.items ≤ 2 }
+        ensures value { result ≡ total_ready self.now.ports.items }
+        ensures bound { result ≤ 131072 }
+    {
+        total_known(self.ports.as_slice())
+    }
+
+    // How many messages it knows to wait at its ports, where it is at this depth; else none.
+    pub(crate) fn ready_at(&self, depth: u32) -> u64
+        requires { length self.now.ports.items ≤ 2 }
+        ensures value { result ≡ cond (eqb self.now.depth depth)
+            (total_ready self.now.ports.items) 0 }
+        ensures bound { result ≤ 131072 }
+    {
+        if self.depth != depth {
+            return 0;
+        }
+        self.ready()
+    }
+
+    // How many messages are pending with it, where it is at this depth; else none.
+    pub(crate) fn pending_at(&self, depth: u32) -> u64
+        ensures { result ≡ cond (eqb self.now.depth depth) (pends_with self.now) 0 }
+    {
+        if self.depth != depth {
+            return 0;
+        }
+        self.pending.len() as u64
+    }
+
+    // The place of the first number of the backlog that its last turn lowered, 64 where none.
+    pub(crate) fn place_lowered(&self) -> u32
+        requires { self.now.depth ≤ 31 }
+        ensures { result ≡ lowered_by self.now }
+    {
+        if self.moved == 0 {
+            return 64;
+        }
+        let waiting = 2 * (31 - self.depth);
+        if self.took == 0 { waiting + 1 } else { waiting }
+    }
+
     /// One turn, which begins at the gate: the node takes all messages that it knows to wait at its
     /// ports, passes over those that fail the test, and puts what its operator sends while its
     /// outlet has room. Answers how many messages moved, clamped to 64 bits. After out of memory
-    /// each turn answers it.
+    /// each turn answers it, and nothing is put any more: what was put stays a prefix of what the
+    /// node owes for the messages that passed.
     pub fn turn<G: Gate>(&mut self, gate: &G) -> Result<u64, Memory>
         requires counted { IsCounted self.old }
         ensures counted { IsCounted self.new }
         ensures moves { NodeMoves self.old self.new }
+        ensures holds { NodeHolds self.old → NodeHolds self.new }
         ensures turned { OnOk result (Turned self.old self.new) }
+        ensures kept { OnErr result (self.new.outlet ≡ self.old.outlet) }
         ensures answer { IfOk result (λ moved. moved ≡ self.new.moved) }
         ensures goes_on { OnOk result (self.new.failed ≡ false) }
         ensures memory { OnErr result (self.new.failed ≡ true) }
@@ -227,6 +280,7 @@ impl Node {
         match self.take_all() {
             Ok(taken) => {
                 let put = self.put_all();
+                self.took = taken;
                 self.moved = taken.saturating_add(put);
                 Ok(self.moved)
             }

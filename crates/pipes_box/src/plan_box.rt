@@ -1,22 +1,27 @@
 // A plan at work.
-ghost use Rattle.std.specs.Prelude.{◌≡◌, ◌≤◌, ◌<◌, ◌++◌, ◌∷◌, [], ℕ, List, All, length, get_or};
-ghost use Rattle.std.specs.Prelude.{min, ◌-◌, ◌^◌, true, false, IfOk, IfErr, IfSome, IfNone, OnOk};
-ghost use Rattle.std.specs.Prelude.{OnErr, OnSome, IsErr, IsOk};
+ghost use Rattle.std.specs.Prelude.{◌≡◌, ◌≤◌, ◌<◌, ◌+◌, ◌++◌, ◌∷◌, [], ℕ, List, All, length};
+ghost use Rattle.std.specs.Prelude.{get_or, min, ◌-◌, ◌^◌, true, false, IfOk, IfErr, IfSome};
+ghost use Rattle.std.specs.Prelude.{IfNone, OnOk, ◌↔◌, IsTrue, OnErr, OnSome, IsErr, IsOk};
 ghost use Rattle.std.specs.Bool.{OnTrue};
 ghost use Rattle.std.specs.List.{sum_by};
 ghost use Rattle.pipes_tuple.specs.declared.value.Kind.{Kind};
 ghost use Rattle.pipes_link.specs.declared.TheConstants.{MOST_ROOM};
 ghost use Rattle.pipes_stream.specs.declared.message.Message.{Message as Sent};
+ghost use Rattle.pipes_stream.specs.Progress.{Progress};
+ghost use Rattle.pipes_stream.specs.Lists.{after, HasEnded};
 ghost use Rattle.pipes_stream.specs.Lawful.{Lists, no_messages, with_message};
 ghost use Rattle.pipes_plan.specs.declared.plan.Plan.{Plan as Tree};
 ghost use Rattle.pipes_plan.specs.PlanKinds.{IsTyped};
+ghost use Rattle.pipes_plan.specs.Refusals.{Checks};
 ghost use Rattle.pipes_box.specs.Nodes.{held_in};
-ghost use Rattle.pipes_box.specs.Shapes.{is_built, shape_of, Answers, FollowsPlan};
+ghost use Rattle.pipes_box.specs.Shapes.{is_built, shape_of, leaf_count, sources_of, Answers};
+ghost use Rattle.pipes_box.specs.Shapes.{FollowsPlan};
 
 use crate::build::{Part, Spot, build_at};
 use crate::leaf::Leaf;
 use crate::node::Node;
 use crate::settling::settle_all;
+use crate::sums::{first_lowered, has_failed, total_held, total_moved};
 use crate::turning::turn_all;
 use pipes_edge::Gate;
 use pipes_link::{Full, Inlet, settle};
@@ -30,53 +35,40 @@ use std::thread::Threads;
 /// leaves comes out at the top as the plan's answer.
 #[derive(Drop)]
 pub struct PlanBox {
-    nodes: Vec<Node>,
-    top: Inlet<Message>,
-    leaves: Vec<Leaf>,
-    failed: bool,
+    pub(crate) nodes: Vec<Node>,
+    pub(crate) top: Inlet<Message>,
+    pub(crate) leaves: Vec<Leaf>,
+    // whether End was taken from the top
+    pub(crate) ended: bool,
+    pub(crate) failed: bool,
 }
 
-// Whether memory was refused to a node.
-fn has_failed(nodes: &[Node]) -> bool
-    ensures { result ≡ false → (k : ℕ) (d : Node) → k < length nodes.now
-        → (get_or nodes.now k d).failed ≡ false }
-{
-    for k in 0..nodes.len() {
-        if nodes[k].failed {
-            return true;
-        }
-    }
-    false
+// What a round did: how many messages moved, and the place of the first number of the backlog that
+// fell, 64 where none did.
+#[derive(Clone, Copy)]
+pub(crate) struct Advance {
+    pub(crate) moved: u64,
+    pub(crate) place: u32,
 }
 
-// How many messages moved in the nodes' last turns, clamped to 64 bits.
-fn total_moved(nodes: &[Node]) -> u64
-    ensures { result ≡ min (sum_by (λ n. n.moved) nodes.now) (2 ^ 64 - 1) }
+// Whether a list of messages has ended, with one more message.
+fn ends(ended: bool, message: &Message) -> bool
+    ensures { (p : Progress) → p.ended ≡ ended → result ≡ (after p message.now).ended }
 {
-    let mut moved: u64 = 0;
-    for node in nodes {
-        moved = moved.saturating_add(node.moved);
+    match message {
+        Message::Elem(_) => ended,
+        Message::Beat(_) => ended,
+        Message::End => true,
     }
-    moved
-}
-
-// How many elements the nodes' operators keep, clamped to 64 bits.
-fn total_held(nodes: &[Node]) -> u64
-    ensures { result ≡ min (sum_by (λ n. held_in n.operator) nodes.now) (2 ^ 64 - 1) }
-{
-    let mut held: u64 = 0;
-    for node in nodes {
-        held = held.saturating_add(node.held());
-    }
-    held
 }
 
 impl PlanBox {
     ghost use Rattle.pipes_box.specs.Boxes.{BoxStands, IsSound, IsStill, Moved, all_held, GivesOne};
-    ghost use Rattle.pipes_box.specs.Boxes.{StaysAsBefore, TakesOne};
-    ghost use Rattle.pipes_box.specs.Networks.{Settles};
+    ghost use Rattle.pipes_box.specs.Boxes.{StaysAsBefore, TakesOne, HasPlace};
+    ghost use Rattle.pipes_box.specs.Networks.{SettlesPorts};
     ghost use Rattle.pipes_box.specs.Prompt.{AllEnded, IsPrompt};
-    ghost use Rattle.pipes_box.specs.Rounds.{AllTurned, TopLooks};
+    ghost use Rattle.pipes_box.specs.Rounds.{AllTurned, TopLooks, TopKnown, TopTaken};
+    ghost use Rattle.pipes_box.specs.Backlog.{backlog, Falls, FallsAt};
     ghost use Rattle.pipes_link.specs.Ends.{ready};
     ghost use Rattle.pipes_box.specs.declared.leaf.Leaf.{Leaf as Place};
 
@@ -88,6 +80,7 @@ impl PlanBox {
         room: u32,
     ) -> Result<PlanBox, Memory>
         requires typed { IsTyped plan.now schemas.now }
+        requires checks { Checks schemas.now plan.now }
         requires built { is_built plan.now ≡ true }
         requires some_room { 1 ≤ room }
         requires most_room { room ≤ MOST_ROOM }
@@ -100,7 +93,7 @@ impl PlanBox {
             number: 0,
             depth: 0,
         };
-        let mut next = 0;
+        let mut next = 1;
         let mut nodes = Vec::new(alloc);
         let mut leaves = Vec::new(alloc);
         let part = build_at(spot, &mut next, plan, schemas, &mut nodes, &mut leaves)?;
@@ -108,12 +101,13 @@ impl PlanBox {
             nodes,
             top: part.inlet,
             leaves,
+            ended: false,
             failed: false,
         })
     }
 
-    /// What has come out at the top is the plan's answer to what was given at the leaves: a law,
-    /// and nothing to run.
+    /// What has come out at the top is the plan's answer to what was given at the leaves, as far
+    /// as its heartbeat, after out of memory too: a law, and nothing to run.
     pub fn answers(&self)
         requires { IsSound self.now }
         ensures answer { (schemas : List (List Kind)) (plan : Tree) (given : Lists)
@@ -125,25 +119,29 @@ impl PlanBox {
     {}
 
     /// A box in which nothing is on its way has answered as far as the leaves' heartbeats allow,
-    /// and after the end of each leaf it has ended and keeps no element: a law, and nothing to run.
+    /// after the end of each leaf it has ended and keeps no element, and a place is free at each
+    /// leaf: a law, and nothing to run.
     pub fn keeps_up(&self)
         requires sound { IsSound self.now }
         requires still { IsStill self.now }
         ensures prompt { (schemas : List (List Kind)) (plan : Tree) (given : Lists)
             (got : List Sent) → BoxStands self.now schemas plan given got
             → IsPrompt (shape_of schemas plan) 0 given got }
+        ensures places { (schemas : List (List Kind)) (plan : Tree) (given : Lists)
+            (got : List Sent) → BoxStands self.now schemas plan given got
+            → (leaf : ℕ) → leaf < length self.now.leaves.items → HasPlace self.now leaf }
         ensures keeps_none { (schemas : List (List Kind)) (plan : Tree) (given : Lists)
             (got : List Sent) → BoxStands self.now schemas plan given got
             → AllEnded (shape_of schemas plan) 0 given → all_held self.now ≡ 0 }
     {}
 
     // Settles the link of each node's port.
-    fn settle_links(&mut self)
+    pub(crate) fn settle_links(&mut self)
         requires { IsSound self.old }
         ensures sound { IsSound self.new }
         ensures stands { StaysAsBefore self.old self.new }
         ensures going { self.new.failed ≡ self.old.failed }
-        ensures links { Settles self.old.nodes.items self.new.nodes.items
+        ensures links { SettlesPorts self.old.nodes.items self.new.nodes.items
             (length self.old.nodes.items) 0 }
         ensures top { self.new.top ≡ self.old.top }
     {
@@ -155,7 +153,7 @@ impl PlanBox {
         requires sound { IsSound self.old }
         requires some { 1 ≤ workers }
         ensures sound { IsSound self.new }
-        ensures stands { self.new.failed ≡ false → StaysAsBefore self.old self.new }
+        ensures stands { StaysAsBefore self.old self.new }
         ensures turned { self.new.failed ≡ false
             → AllTurned self.old.nodes.items self.new.nodes.items }
         ensures top { self.new.top ≡ self.old.top }
@@ -165,7 +163,7 @@ impl PlanBox {
     }
 
     // Settles the top link.
-    fn settle_top(&mut self)
+    pub(crate) fn settle_top(&mut self)
         requires { IsSound self.old }
         ensures sound { IsSound self.new }
         ensures stands { StaysAsBefore self.old self.new }
@@ -176,26 +174,25 @@ impl PlanBox {
         settle(&mut self.nodes[root].outlet, &mut self.top);
     }
 
-    /// A round: each link is settled, and each node has one turn, shared out among at most so many
-    /// threads. With one worker no thread is started. What came to the top can be taken then.
-    /// Answers how many messages moved, clamped to 64 bits. After an answer of 0 either messages
-    /// wait at the top, or nothing is on its way in the box. After out of memory each round answers
-    /// it.
-    pub fn round<R: Threads + Sync, G: Gate>(
+    // A round: each link is settled, and each node has one turn.
+    pub(crate) fn advance<R: Threads + Sync, G: Gate>(
         &mut self,
         rt: &R,
         workers: u32,
         gate: &G,
-    ) -> Result<u64, Memory>
+    ) -> Result<Advance, Memory>
         requires sound { IsSound self.old }
         requires some { 1 ≤ workers }
-        requires most { workers ≤ 16 }
         ensures sound { IsSound self.new }
-        ensures stands { OnOk result (StaysAsBefore self.old self.new) }
-        ensures moved { IfOk result (λ moved. Moved self.old.nodes.items self.new.nodes.items
-            moved) }
-        ensures still { IfOk result (λ moved. moved ≡ 0 → ready self.new.top ≡ 0
+        ensures stands { StaysAsBefore self.old self.new }
+        ensures moved { IfOk result
+            (λ r. Moved self.old.nodes.items self.new.nodes.items r.moved) }
+        ensures falls { IfOk result
+            (λ r. 0 < r.moved → FallsAt (backlog self.old) (backlog self.new) r.place) }
+        ensures still { IfOk result (λ r. r.moved ≡ 0 → ready self.new.top ≡ 0
             → IsStill self.new) }
+        ensures top { OnOk result (TopKnown self.new) }
+        ensures idle { IfOk result (λ r. r.moved ≡ 0 → TopTaken self.old → ready self.new.top ≡ 0) }
         ensures memory { OnErr result (self.new.failed ≡ true) }
         ensures stays_failed { OnTrue self.old.failed (IsErr result) }
     {
@@ -209,8 +206,39 @@ impl PlanBox {
             return Err(Memory);
         }
         let moved = total_moved(self.nodes.as_slice());
+        let place = first_lowered(self.nodes.as_slice());
         self.settle_top();
-        Ok(moved)
+        Ok(Advance { moved, place })
+    }
+
+    /// A round: each link is settled, and each node has one turn, shared out among at most so many
+    /// threads. With one worker no thread is started. What came to the top can be taken then.
+    /// Answers how many messages moved, clamped to 64 bits. If any did, the backlog is lower: one
+    /// of its numbers fell, and those before it are as they were. After an answer of 0 either
+    /// messages wait at the top, or nothing is on its way in the box. After out of memory each
+    /// round answers it, and what comes out at the top is still right, as far as it comes.
+    pub fn round<R: Threads + Sync, G: Gate>(
+        &mut self,
+        rt: &R,
+        workers: u32,
+        gate: &G,
+    ) -> Result<u64, Memory>
+        requires sound { IsSound self.old }
+        requires some { 1 ≤ workers }
+        requires most { workers ≤ 16 }
+        ensures sound { IsSound self.new }
+        ensures stands { StaysAsBefore self.old self.new }
+        ensures moved { IfOk result
+            (λ moved. Moved self.old.nodes.items self.new.nodes.items moved) }
+        ensures falls { IfOk result
+            (λ moved. 0 < moved → Falls (backlog self.old) (backlog self.new)) }
+        ensures still { IfOk result (λ moved. moved ≡ 0 → ready self.new.top ≡ 0
+            → IsStill self.new) }
+        ensures memory { OnErr result (self.new.failed ≡ true) }
+        ensures stays_failed { OnTrue self.old.failed (IsErr result) }
+    {
+        let advance = self.advance(rt, workers, gate)?;
+        Ok(advance.moved)
     }
 
     /// Takes the next message from the top, of those that the last round brought there.
@@ -218,10 +246,24 @@ impl PlanBox {
         requires { IsSound self.old }
         ensures sound { IsSound self.new }
         ensures took { IfSome result (λ message. TakesOne self.old self.new message) }
+        ensures fewer { OnSome result (ready self.old.top ≡ ready self.new.top + 1) }
         ensures none { IfNone result ((self.new ≡ self.old) × (ready self.old.top ≡ 0)) }
+        ensures nodes { self.new.nodes ≡ self.old.nodes }
+        ensures known { TopKnown self.old → TopKnown self.new }
         ensures going { self.new.failed ≡ self.old.failed }
     {
-        self.top.take_known()
+        let message = self.top.take_known()?;
+        self.ended = ends(self.ended, &message);
+        Some(message)
+    }
+
+    /// Whether End was taken from the top.
+    pub fn is_ended(&self) -> bool
+        requires { IsSound self.now }
+        ensures { (schemas : List (List Kind)) (plan : Tree) (given : Lists) (got : List Sent)
+            → BoxStands self.now schemas plan given got → IsTrue result ↔ HasEnded got }
+    {
+        self.ended
     }
 
     /// Gives a message at a leaf, unless its link has no free place: then the message comes back.
@@ -231,7 +273,9 @@ impl PlanBox {
         requires in_range { leaf < length self.old.leaves.items }
         ensures sound { IsSound self.new }
         ensures gave { OnOk result (GivesOne self.old self.new leaf message) }
+        ensures succeeds { HasPlace self.old leaf → IsOk result }
         ensures full { IfErr result (λ full. full.0 ≡ message) }
+        ensures no_place { OnErr result (HasPlace self.new leaf → ⊥) }
         ensures refused { OnErr result (StaysAsBefore self.old self.new) }
         ensures going { self.new.failed ≡ self.old.failed }
     {
@@ -249,17 +293,23 @@ impl PlanBox {
         total_held(self.nodes.as_slice())
     }
 
-    /// The number of leaves, clamped to 32 bits.
+    /// The number of leaves.
     pub fn leaf_count(&self) -> u32
-        ensures { result ≡ min (length self.now.leaves.items) (2 ^ 32 - 1) }
+        ensures value { result ≡ min (length self.now.leaves.items) (2 ^ 32 - 1) }
+        ensures count { (schemas : List (List Kind)) (plan : Tree) (given : Lists)
+            (got : List Sent) → BoxStands self.now schemas plan given got
+            → result ≡ leaf_count (shape_of schemas plan) }
     {
         self.leaves.len().min(u32::MAX as usize) as u32
     }
 
-    /// The number of the source of a leaf.
+    /// The number of the source of a leaf. Leaves are numbered in preorder, from 0.
     pub fn leaf_source(&self, leaf: u32) -> u32
         requires { leaf < length self.now.leaves.items }
-        ensures { (d : Place) → result ≡ (get_or self.now.leaves.items leaf d).source }
+        ensures value { (d : Place) → result ≡ (get_or self.now.leaves.items leaf d).source }
+        ensures source { (schemas : List (List Kind)) (plan : Tree) (given : Lists)
+            (got : List Sent) → BoxStands self.now schemas plan given got
+            → (d : ℕ) → result ≡ get_or (sources_of (shape_of schemas plan)) leaf d }
     {
         self.leaves[leaf as usize].source
     }

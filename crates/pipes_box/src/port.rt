@@ -1,10 +1,11 @@
 // A port of a node: where messages come from a link, and are tested.
-ghost use Rattle.std.specs.Prelude.{◌≡◌, ◌↔◌, IsTrue, IfSome, IfNone};
+ghost use Rattle.std.specs.Prelude.{◌≡◌, ◌≤◌, ◌↔◌, IsTrue, IfSome, IfNone, length};
 ghost use Rattle.std.specs.Bool.{OnTrue, OnFalse};
 ghost use Rattle.pipes_stream.specs.Lists.{after};
 ghost use Rattle.pipes_stream.specs.Lawful.{MessageFits};
 ghost use Rattle.pipes_link.specs.Ends.{ready};
 ghost use Rattle.pipes_box.specs.Passing.{MayPass};
+ghost use Rattle.pipes_box.specs.Nodes.{total_ready};
 
 use pipes_link::Inlet;
 use pipes_stream::{Message, Watch};
@@ -58,4 +59,17 @@ impl Port {
         let passed = passes(&mut self.watch, &self.schema, &message);
         Some((message, passed))
     }
+}
+
+// How many messages are known to wait at the ports, which are at most two.
+pub(crate) fn total_known(ports: &[Port]) -> u64
+    requires { length ports.now ≤ 2 }
+    ensures value { result ≡ total_ready ports.now }
+    ensures bound { result ≤ 131072 }
+{
+    let mut known: u64 = 0;
+    for port in ports {
+        known += port.inlet.known_count();
+    }
+    known
 }

@@ -1,7 +1,7 @@
 // The links between the nodes of one list.
 ghost use Rattle.std.specs.Prelude.{◌≡◌, ◌<◌, ◌≤◌, ℕ, ◌+◌, List, length, get_or};
 ghost use Rattle.pipes_box.specs.declared.port.Port.{Port};
-ghost use Rattle.pipes_box.specs.Networks.{IsLinked, PortSettled, Settles};
+ghost use Rattle.pipes_box.specs.Networks.{IsLinked, PortSettled, SettlesPorts};
 
 use crate::node::Node;
 use pipes_link::settle;
@@ -23,8 +23,8 @@ fn settle_port(nodes: &mut [Node], parent: usize, port: usize)
 fn settle_ports(nodes: &mut [Node], parent: usize)
     requires in_range { parent < length nodes.old }
     requires linked { IsLinked nodes.old }
-    ensures settles { (first : List Node) → Settles first nodes.old parent 0
-        → Settles first nodes.new (parent + 1) 0 }
+    ensures settles { (first : List Node) → SettlesPorts first nodes.old parent 0
+        → SettlesPorts first nodes.new (parent + 1) 0 }
     ensures count { length nodes.new ≡ length nodes.old }
     ensures linked { IsLinked nodes.new }
 {
@@ -37,7 +37,7 @@ fn settle_ports(nodes: &mut [Node], parent: usize)
 #[tactic(auto, using(crate::proofs::Looks::settles_none))]
 pub(crate) fn settle_all(nodes: &mut [Node])
     requires { IsLinked nodes.old }
-    ensures { Settles nodes.old nodes.new (length nodes.old) 0 }
+    ensures { SettlesPorts nodes.old nodes.new (length nodes.old) 0 }
 {
     for parent in 0..nodes.len() {
         settle_ports(nodes, parent);

@@ -13,7 +13,8 @@ use Rattle.pipes_coalesce.specs.Bags.{weigh}
 use Rattle.pipes_coalesce.specs.Tests.{starts_below, ends_above}
 use Rattle.pipes_coalesce.specs.Filed.{has_tuple, Added, TakenOut}
 use Rattle.pipes_coalesce.specs.Joined.{IsJoint}
-use Rattle.pipes_coalesce.specs.Stands.{number, EndsBy, StartsFrom, Parts, Flows, FreshFlows, Stays}
+use Rattle.pipes_coalesce.specs.Stands.{count_of, EndsBy, StartsFromSplit, Parts, Flows, FreshFlows}
+use Rattle.pipes_coalesce.specs.Stands.{Stays}
 use Rattle.pipes_coalesce.specs.Stands.{AdmitsOld, AdmitsElem, AdmitsFresh}
 use Rattle.pipes_coalesce.specs.declared.merge.Coalesce.{Coalesce}
 use Rattle.pipes_coalesce.proofs.Touching.{not-lt, else-zero}

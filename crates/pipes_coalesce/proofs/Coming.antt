@@ -10,7 +10,7 @@ use Rattle.pipes_coalesce.specs.Tests.{ends_at, ends_elsewhere, is_no_interval, 
 use Rattle.pipes_coalesce.specs.Filed.{has_tuple, Added, TakenOut}
 use Rattle.pipes_coalesce.specs.Joined.{IsJoint}
 use Rattle.pipes_coalesce.specs.Merging.{Pairing, IsPairing, Bags}
-use Rattle.pipes_coalesce.specs.Stands.{RisesFrom, number, Parts}
+use Rattle.pipes_coalesce.specs.Stands.{ElemsRiseFrom, count_of, Parts}
 use Rattle.pipes_coalesce.proofs.Weights.{weigh-append, weigh-none}
 use Rattle.pipes_coalesce.proofs.Touching.{not-lt, lt-zero, not-le, not-eq, is-else, else-zero}
 use Rattle.pipes_coalesce.proofs.Touching.{no-interval, zero-of, none-weighs}
@@ -218,7 +218,7 @@ module _ (t ob fb b s : ℕ) (olds lone partners later os fs ss : List Elem)
       record {
         old_beat = omega (arith, joint.start, first-at, low.1);
         fresh_beat = omega (arith, joint.start, first-at, low.2);
-        olds_rise = subst (λ (n : ℕ). RisesFrom n olds) (sym (joint.start ∙ first-at)) low.3;
+        olds_rise = subst (λ (n : ℕ). ElemsRiseFrom n olds) (sym (joint.start ∙ first-at)) low.3;
         olds_low = p.olds_low;
         olds_end = p.olds_end;
         lone_at = omega (arith, out (starts_elsewhere s), p.lone_at);
@@ -297,10 +297,10 @@ module _ (t ob fb b s : ℕ) (olds lone partners later os fs ss : List Elem)
         pair : Pairing
         pair = record { first = first; second = e; both = both }
 
-        some : 0 < number lone
+        some : 0 < count_of lone
         some = omega (arith, out (λ _. 1))
 
-        low : (b ≤ s) × (s ≤ ob) × (s < t) × RisesFrom s olds
+        low : (b ≤ s) × (s ≤ ob) × (s < t) × ElemsRiseFrom s olds
         low = p.lone_low some
 
         first-at : first.span.start ≡ s

@@ -21,7 +21,7 @@ use Rattle.pipes_tuple.proofs.Equality.{tuple_eq-Decides}
 use Rattle.pipes_stream.specs.declared.Elem.{Elem}
 use Rattle.pipes_coalesce.specs.Bags.{weigh}
 use Rattle.pipes_coalesce.specs.Filed.{Entries, contents, HaveTuple, AreFiled, EntryAt, has_tuple}
-use Rattle.pipes_coalesce.specs.Filed.{Added, TakenOut, Finds, QueueOut}
+use Rattle.pipes_coalesce.specs.Filed.{Added, TakenOut, TakesOfTuple, QueueOut}
 use Rattle.pipes_coalesce.proofs.Weights.{weigh-append, weigh-one}
 
 -- ---- a queue
@@ -289,7 +289,7 @@ popped-filed es i t e q rest f h s is =
 pub popped-found : (es : Entries) (i : ℕ) (t : List Value) (P : List Elem → Type 0) (e : Elem)
     (q rest : List Elem) → AreFiled es → EntryAt es i t P
     → slice_get (values_of es) i ≡ Some q → q ≡ e ∷ rest
-    → Finds t (contents es) (contents (set_value_at es i rest)) (Some e)
+    → TakesOfTuple t (contents es) (contents (set_value_at es i rest)) (Some e)
 popped-found es i t P e q rest f h s is =
     let have : HaveTuple t (e ∷ rest) = subst (HaveTuple t) is (at es i t P q f h s).have in (
       have.0,
@@ -300,7 +300,7 @@ popped-found es i t P e q rest f h s is =
 pub only-found : (es : Entries) (i : ℕ) (t : List Value) (p : List Value × List Elem) (e : Elem)
     (rest : List Elem) → AreFiled es
     → EntryAt es i t (λ w. length w ≡ 1) → slice_get es i ≡ Some p → p.1 ≡ e ∷ rest
-    → Finds t (contents es) (contents (swap_remove es i p)) (Some e)
+    → TakesOfTuple t (contents es) (contents (swap_remove es i p)) (Some e)
 only-found es i t p e rest f h s is =
     let a = at es i t (λ w. length w ≡ 1) p.1 f h (value-there es i p s) in
     let have : HaveTuple t (e ∷ rest) = subst (HaveTuple t) is a.have in
@@ -329,7 +329,7 @@ pub only-result : (es : Entries) (i : ℕ) (t : List Value) (p : List Value × L
     (r : Option Elem) (rest : List Elem) → AreFiled es
     → EntryAt es i t (λ w. length w ≡ 1) → slice_get es i ≡ Some p
     → MatchOption r ((p.1 ≡ []) × (rest ≡ [])) (λ e. p.1 ≡ e ∷ rest)
-    → Finds t (contents es) (contents (swap_remove es i p)) r
+    → TakesOfTuple t (contents es) (contents (swap_remove es i p)) r
 only-result es i t p None rest f h s m =
     absurd (some-there es i t (λ w. length w ≡ 1) f h
     (value-there es i p s ∙ ap (λ (w : List Elem). Some w) m.0))

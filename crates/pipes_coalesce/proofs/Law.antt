@@ -23,9 +23,10 @@ use Rattle.pipes_coalesce.specs.Tests.{if_so, starts_below, starts_above, starts
 use Rattle.pipes_coalesce.specs.Tests.{starts_elsewhere, ends_above, ends_at, ends_elsewhere}
 use Rattle.pipes_coalesce.specs.Tests.{goes_by, waits_below, is_no_interval, touch, touching}
 use Rattle.pipes_coalesce.specs.Filed.{FirstElsewhere}
-use Rattle.pipes_coalesce.specs.Merging.{Pairing, IsPairing, ArePairings, low, high, across, Bags}
+use Rattle.pipes_coalesce.specs.Merging.{Pairing, IsPairing, ArePairings, below_split, above_split}
+use Rattle.pipes_coalesce.specs.Merging.{across, Bags}
 use Rattle.pipes_coalesce.specs.Merged.{Outcome, Merged, SameAt, least_start}
-use Rattle.pipes_coalesce.specs.Stands.{RisesFrom, number, lone_from, now_of, held_of, Parts}
+use Rattle.pipes_coalesce.specs.Stands.{ElemsRiseFrom, count_of, lone_from, now_of, held_of, Parts}
 use Rattle.pipes_coalesce.specs.Stands.{CoalesceStands}
 use Rattle.pipes_coalesce.specs.declared.merge.Coalesce.{Coalesce}
 use Rattle.pipes_coalesce.proofs.Weights.{weigh-append, weigh-same, weigh-le}
@@ -53,7 +54,7 @@ module _ {X Y : Type 0} where
   weigh-map f g (x ∷ xs) = omega (arith, weigh-map f g xs)
 
 -- ---- intervals
-rises-intervals : (b : ℕ) (es : List Elem) → RisesFrom b es → weigh is_no_interval es ≡ 0
+rises-intervals : (b : ℕ) (es : List Elem) → ElemsRiseFrom b es → weigh is_no_interval es ≡ 0
 rises-intervals b [] r = refl
 rises-intervals b (e ∷ es) r =
     omega (arith, no-interval e.span.start e.span.end r.1, rises-intervals e.span.start es r.2)
@@ -76,7 +77,7 @@ three : (s e t x : ℕ) → s < e
 three s e t x h = grind (arith, nat_tests)
 
 weigh-three : (t : ℕ) (f : Elem → ℕ) (es : List Elem) → weigh is_no_interval es ≡ 0
-    → weigh f es ≡ weigh (low t f) es + (weigh (high t f) es + weigh (across t f) es)
+    → weigh f es ≡ weigh (below_split t f) es + (weigh (above_split t f) es + weigh (across t f) es)
 weigh-three t f [] z = refl
 weigh-three t f (e ∷ es) z =
     let i = interval-zero e.span.start e.span.end (omega (arith, z)) in
@@ -298,7 +299,8 @@ module _ (c : Coalesce) (olds fresh sent : List Message)
       )
 
   -- what is held starts no earlier than what was sent is far
-  rises-late : (n m : ℕ) (es : List Elem) → n ≤ m → RisesFrom m es → weigh (starts_below n) es ≡ 0
+  rises-late : (n m : ℕ) (es : List Elem) → n ≤ m → ElemsRiseFrom m es
+      → weigh (starts_below n) es ≡ 0
   rises-late n m [] h r = refl
   rises-late n m (e ∷ es) h r =
       omega (
@@ -318,7 +320,7 @@ module _ (c : Coalesce) (olds fresh sent : List Message)
         all-start n m es h (omega (arith, z)),
       )
 
-  some-of : (es : List Elem) → (es ≡ []) ⊎ (0 < number es)
+  some-of : (es : List Elem) → (es ≡ []) ⊎ (0 < count_of es)
   some-of [] = inl refl
   some-of (x ∷ xs) = inr (omega arith)
 
@@ -334,11 +336,12 @@ module _ (c : Coalesce) (olds fresh sent : List Message)
         rises-late b b c.later (omega arith) p.later_rise,
       )
     where
-      lone : (c.lone ≡ []) ⊎ (0 < number c.lone) → weigh (starts_below b) c.lone ≡ 0
+      lone : (c.lone ≡ []) ⊎ (0 < count_of c.lone) → weigh (starts_below b) c.lone ≡ 0
       lone (inl none) = ap (weigh (starts_below b)) none
       lone (inr some) = all-start b c.lone_start c.lone (s.parts.lone_low some).0 s.parts.lone_at
 
-      partners : (c.partners ≡ []) ⊎ (0 < number c.partners) → weigh (starts_below b) c.partners ≡ 0
+      partners : (c.partners ≡ []) ⊎ (0 < count_of c.partners)
+          → weigh (starts_below b) c.partners ≡ 0
       partners (inl none) = ap (weigh (starts_below b)) none
       partners (inr some) =
           all-start b c.split c.partners (s.parts.partners_low some) s.parts.partners_at
@@ -420,8 +423,8 @@ module _ (c : Coalesce) (olds fresh sent : List Message)
       by (inr q) =
           let f = waits_below c.split n in
           let w : weigh f os ≡ 0 = z (omega (arith, q, fresh-beat)) in
-          let l : weigh (low c.split f) (ss ++ rest) ≡ weigh f (ss ++ rest) =
-          weigh-same (low c.split f) f (λ e. low-waits c.split n e.span.end e.span.start)
+          let l : weigh (below_split c.split f) (ss ++ rest) ≡ weigh f (ss ++ rest) =
+          weigh-same (below_split c.split f) f (λ e. low-waits c.split n e.span.end e.span.start)
           (ss ++ rest) in
           lone-from n c.lone c.lone_start n-closed
           (omega (
@@ -441,7 +444,8 @@ module _ (c : Coalesce) (olds fresh sent : List Message)
       absurd (omega
       (arith, lt-zero n e.span.start (omega (arith, z)), le-zero e.span.start n (omega (arith, w))))
 
-  none-after : (n m : ℕ) (es : List Elem) → closed ≤ n → RisesFrom m es → weigh (starts_by n) es ≡ 0
+  none-after : (n m : ℕ) (es : List Elem) → closed ≤ n → ElemsRiseFrom m es
+      → weigh (starts_by n) es ≡ 0
       → es ≡ []
   none-after n m [] h r z = refl
   none-after n m (e ∷ es) h r z =
@@ -555,7 +559,7 @@ module _ (c : Coalesce) (olds fresh sent : List Message)
       rw (s.settled.blocked.passed alone, alone) refl
 
   -- ---- how far it is
-  least-above : (n : ℕ) (xs ys : List Elem) → n ≤ closed → RisesFrom n xs
+  least-above : (n : ℕ) (xs ys : List Elem) → n ≤ closed → ElemsRiseFrom n xs
       → least_start ys ≡ n → least_start (xs ++ ys) ≡ n
   least-above n [] ys h r is = is
   least-above n (x ∷ xs) ys h r is =
@@ -588,8 +592,8 @@ module _ (c : Coalesce) (olds fresh sent : List Message)
       by c.lone s.settled.blocked.passed s.parts.lone_low s.parts.lone_at s.parts.lone_are
     where
       by : (ls : List Elem) → (ls ≡ [] → c.olds ≡ [])
-          → (0 < number ls → (b ≤ c.lone_start) × (c.lone_start ≤ c.old_watch.beat)
-          × (c.lone_start < c.split) × RisesFrom c.lone_start c.olds)
+          → (0 < count_of ls → (b ≤ c.lone_start) × (c.lone_start ≤ c.old_watch.beat)
+          × (c.lone_start < c.split) × ElemsRiseFrom c.lone_start c.olds)
           → weigh (starts_elsewhere c.lone_start) ls ≡ 0 → weigh is_no_interval ls ≡ 0
           → least_start (c.olds ++ ls) ≡ lone_from ls c.lone_start
       by [] passed near z w = ap (λ (es : List Elem). least_start (es ++ [])) (passed refl)
@@ -612,7 +616,7 @@ module _ (c : Coalesce) (olds fresh sent : List Message)
         all-later n m es h (omega (arith, z)),
       )
 
-  rises-later : (n m : ℕ) (es : List Elem) → n < m → RisesFrom m es → weigh (starts_by n) es ≡ 0
+  rises-later : (n m : ℕ) (es : List Elem) → n < m → ElemsRiseFrom m es → weigh (starts_by n) es ≡ 0
   rises-later n m [] h r = refl
   rises-later n m (e ∷ es) h r =
       omega (
@@ -621,7 +625,7 @@ module _ (c : Coalesce) (olds fresh sent : List Message)
         rises-later n e.span.start es (omega (arith, h, r.0)) r.2,
       )
 
-  rises-ahead : (n m : ℕ) (es : List Elem) → n ≤ m → RisesFrom m es → FirstElsewhere m es
+  rises-ahead : (n m : ℕ) (es : List Elem) → n ≤ m → ElemsRiseFrom m es → FirstElsewhere m es
       → weigh (starts_by n) es ≡ 0
   rises-ahead n m [] h r ne = refl
   rises-ahead n m (e ∷ es) h r ne =
@@ -635,11 +639,11 @@ module _ (c : Coalesce) (olds fresh sent : List Message)
   olds-ahead : weigh (starts_by b) c.olds ≡ 0
   olds-ahead = by (some-of c.lone)
     where
-      by : (c.lone ≡ []) ⊎ (0 < number c.lone) → weigh (starts_by b) c.olds ≡ 0
+      by : (c.lone ≡ []) ⊎ (0 < count_of c.lone) → weigh (starts_by b) c.olds ≡ 0
       by (inl none) = ap (weigh (starts_by b)) (s.settled.blocked.passed none)
       by (inr some) =
-          let low = s.parts.lone_low some in
-          rises-ahead b c.lone_start c.olds low.0 low.3 s.settled.blocked.ahead
+          let below_split = s.parts.lone_low some in
+          rises-ahead b c.lone_start c.olds below_split.0 below_split.3 s.settled.blocked.ahead
 
   goes-by : (t n x y : ℕ)
       → if_so (nat_le y n && not (eqb x t)) ≤ if_so (nat_le y n)

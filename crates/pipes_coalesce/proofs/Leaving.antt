@@ -7,7 +7,7 @@ use Rattle.pipes_coalesce.specs.Bags.{weigh}
 use Rattle.pipes_coalesce.specs.Tests.{starts_above, starts_by, starts_elsewhere, ends_above}
 use Rattle.pipes_coalesce.specs.Tests.{ends_at, ends_elsewhere, is_no_interval, touch, touching}
 use Rattle.pipes_coalesce.specs.Merging.{Bags}
-use Rattle.pipes_coalesce.specs.Stands.{RisesFrom, number, Parts}
+use Rattle.pipes_coalesce.specs.Stands.{ElemsRiseFrom, count_of, Parts}
 use Rattle.pipes_coalesce.proofs.Weights.{weigh-append, weigh-none}
 use Rattle.pipes_coalesce.proofs.Touching.{not-lt, lt-zero, le-zero, not-eq, zero-of, none-weighs}
 use Rattle.pipes_coalesce.proofs.Touching.{touching-same, touching-across}
@@ -29,7 +29,7 @@ module _ (t ob fb b s : ℕ) (olds lone partners later os fs ss : List Elem)
   after f = weigh-append f ss sent
 
   -- all that wait for a partner
-  pub lone-leaves : t < fb → 0 < number lone → ((f : Elem → ℕ) → weigh f sent ≡ weigh f lone)
+  pub lone-leaves : t < fb → 0 < count_of lone → ((f : Elem → ℕ) → weigh f sent ≡ weigh f lone)
       → Parts t ob fb s s olds [] partners later os fs (ss ++ sent)
   lone-leaves h some w =
       let low = p.lone_low some in
@@ -77,7 +77,7 @@ module _ (t ob fb b s : ℕ) (olds lone partners later os fs ss : List Elem)
       }
 
   -- all fresh ones at the split
-  pub partners-leave : olds ≡ [] → lone ≡ [] → t ≤ ob → 0 < number partners
+  pub partners-leave : olds ≡ [] → lone ≡ [] → t ≤ ob → 0 < count_of partners
       → ((f : Elem → ℕ) → weigh f sent ≡ weigh f partners)
       → Parts t ob fb t s olds lone [] later os fs (ss ++ sent)
   partners-leave none alone h some w = record {
@@ -89,7 +89,7 @@ module _ (t ob fb b s : ℕ) (olds lone partners later os fs ss : List Elem)
     lone_at = p.lone_at;
     lone_end = p.lone_end;
     lone_are = p.lone_are;
-    lone_low = λ n. let z : number lone ≡ 0 = ap number alone in absurd (omega (arith, n, z));
+    lone_low = λ n. let z : count_of lone ≡ 0 = ap count_of alone in absurd (omega (arith, n, z));
     partners_at = refl;
     partners_low = λ _. omega arith;
     partners_are = refl;
@@ -149,9 +149,9 @@ later-leaves t ob fb b s olds lone partners x rest os fs ss p none alone single 
     lone_at = p.lone_at;
     lone_end = p.lone_end;
     lone_are = p.lone_are;
-    lone_low = λ n. let z : number lone ≡ 0 = ap number alone in absurd (omega (arith, n, z));
+    lone_low = λ n. let z : count_of lone ≡ 0 = ap count_of alone in absurd (omega (arith, n, z));
     partners_at = p.partners_at;
-    partners_low = λ n. let z : number partners ≡ 0 = ap number single in
+    partners_low = λ n. let z : count_of partners ≡ 0 = ap count_of single in
         absurd (omega (arith, n, z));
     partners_are = p.partners_are;
     later_rise = p.later_rise.2;

@@ -15,7 +15,7 @@ use Rattle.pipes_stream.proofs.Messages.{elements-append, elements-map}
 use Rattle.pipes_coalesce.specs.Bags.{weigh}
 use Rattle.pipes_coalesce.specs.Tests.{starts_below, ends_above}
 use Rattle.pipes_coalesce.specs.Tests.{starts_elsewhere, is_no_interval}
-use Rattle.pipes_coalesce.specs.Stands.{number, Parts, Flows, Stays, Moves, SameBut}
+use Rattle.pipes_coalesce.specs.Stands.{count_of, Parts, Flows, Stays, Moves, SameBut}
 use Rattle.pipes_coalesce.proofs.Touching.{else-zero, interval-zero}
 use Rattle.pipes_coalesce.specs.declared.merge.Coalesce.{Coalesce}
 
@@ -152,8 +152,8 @@ moves-itself c w before = moves-none c c w w before before (stays-itself c) refl
 pub record Many (s : ℕ) (p : Progress) (xs : List Elem) : Type 0 where
   pub valid : Rattle.pipes_stream.specs.Lists.ValidFrom p (map message.Elem xs)
   pub ended : (run p (map message.Elem xs)).ended ≡ false
-  pub none : number xs ≡ 0 → (run p (map message.Elem xs)).beat ≡ p.beat
-  pub some : 0 < number xs → (run p (map message.Elem xs)).beat ≡ s
+  pub none : count_of xs ≡ 0 → (run p (map message.Elem xs)).beat ≡ p.beat
+  pub some : 0 < count_of xs → (run p (map message.Elem xs)).beat ≡ s
 
 pub many : (s : ℕ) (p : Progress) (xs : List Elem) → p.ended ≡ false → p.beat ≤ s
     → weigh (starts_elsewhere s) xs ≡ 0 → weigh is_no_interval xs ≡ 0 → Many s p xs
@@ -168,10 +168,10 @@ many s p (x ∷ xs) going low at are =
       valid = ((going, omega (arith, start, low), i), m.valid);
       ended = m.ended;
       none = λ n. absurd (omega (arith, n));
-      some = λ _. last m (cases_lt 0 (number xs)) start;
+      some = λ _. last m (cases_lt 0 (count_of xs)) start;
     }
   where
-    last : Many s (after p (message.Elem x)) xs → (0 < number xs) ⊎ (number xs ≤ 0)
+    last : Many s (after p (message.Elem x)) xs → (0 < count_of xs) ⊎ (count_of xs ≤ 0)
         → x.span.start ≡ s → (run (after p (message.Elem x)) (map message.Elem xs)).beat ≡ s
     last m (inl h) start = m.some h
     last m (inr h) start = m.none (omega (arith, h)) ∙ start
@@ -186,21 +186,21 @@ pub record ManyGo (c d : Coalesce) (w v xs : List Elem) (s b : ℕ)
       d.later os fs (ss ++ xs)
 
 pub record SendsMany (c d : Coalesce) (w v xs : List Elem) (s : ℕ) : Type 0 where
-  pub none : number xs ≡ 0 → Keeps c d w v
-  pub some : 0 < number xs → (b : ℕ) (os fs ss : List Elem)
+  pub none : count_of xs ≡ 0 → Keeps c d w v
+  pub some : 0 < count_of xs → (b : ℕ) (os fs ss : List Elem)
       → Parts c.split c.old_watch.beat c.fresh_watch.beat b c.lone_start w c.lone c.partners
       c.later os fs ss → ManyGo c d w v xs s b os fs ss
 
-pub none-is : (xs : List Elem) → number xs ≡ 0 → xs ≡ []
+pub none-is : (xs : List Elem) → count_of xs ≡ 0 → xs ≡ []
 none-is [] h = refl
 none-is (x ∷ xs) h = absurd (omega (arith, h))
 
 pub flows-many : (c d : Coalesce) (w v xs : List Elem) (s : ℕ) (olds fresh sent : List Message)
     → Stays c d → SendsMany c d w v xs s → Flows c w olds fresh sent
     → Flows d v olds fresh (sent ++ map message.Elem xs)
-flows-many c d w v xs s olds fresh sent y sends f = by (cases_lt 0 (number xs))
+flows-many c d w v xs s olds fresh sent y sends f = by (cases_lt 0 (count_of xs))
   where
-    by : (0 < number xs) ⊎ (number xs ≤ 0) → Flows d v olds fresh (sent ++ map message.Elem xs)
+    by : (0 < count_of xs) ⊎ (count_of xs ≤ 0) → Flows d v olds fresh (sent ++ map message.Elem xs)
     by (inr h) =
         let none = none-is xs (omega (arith, h)) in
         subst (λ (es : List Elem). Flows d v olds fresh (sent ++ map message.Elem es)) (sym none)

@@ -4,7 +4,7 @@ use Rattle.std.proofs.Common.{◌++◌, refl, sym, ap, ◌∙◌, arith}
 use Rattle.std.proofs.lemmas.Bool.Decides.{nat_tests}
 use Rattle.pipes_stream.specs.declared.Elem.{Elem}
 use Rattle.pipes_coalesce.specs.Bags.{weigh}
-use Rattle.pipes_coalesce.specs.Merging.{Pairing, IsPairing, low, high, across, Bags}
+use Rattle.pipes_coalesce.specs.Merging.{Pairing, IsPairing, below_split, above_split, across, Bags}
 use Rattle.pipes_coalesce.proofs.Weights.{weigh-append}
 
 if-le : (n m x : ℕ) → n ≤ m → cond (nat_le n m) x 0 ≡ x
@@ -27,8 +27,8 @@ pub bags-same : (t : ℕ) (olds fresh all new : List Elem)
 bags-same t olds fresh all new w s = record {
   pairs = s.pairs;
   pairings = s.pairings;
-  old_side = λ f. omega (arith, w (low t f), s.old_side f);
-  fresh_side = λ f. omega (arith, w (high t f), s.fresh_side f);
+  old_side = λ f. omega (arith, w (below_split t f), s.old_side f);
+  fresh_side = λ f. omega (arith, w (above_split t f), s.fresh_side f);
   merged = λ f. omega (arith, w (across t f), s.merged f);
 }
 
@@ -40,10 +40,19 @@ pub bags-old : (t : ℕ) (olds fresh all new : List Elem) (e : Elem) → e.span.
 bags-old t olds fresh all new e o h w s = record {
   pairs = s.pairs;
   pairings = s.pairings;
-  old_side = λ f. omega
-      (arith, weigh-append f olds (e ∷ []), if-le e.span.end t (f e) h, w (low t f), s.old_side f);
-  fresh_side = λ f. omega
-      (arith, if-not t e.span.start (f e) (omega (arith, o, h)), w (high t f), s.fresh_side f);
+  old_side = λ f. omega (
+    arith,
+    weigh-append f olds (e ∷ []),
+    if-le e.span.end t (f e) h,
+    w (below_split t f),
+    s.old_side f,
+  );
+  fresh_side = λ f. omega (
+    arith,
+    if-not t e.span.start (f e) (omega (arith, o, h)),
+    w (above_split t f),
+    s.fresh_side f,
+  );
   merged = λ f. omega
       (arith, if-below e.span.start t e.span.end (f e) h, w (across t f), s.merged f);
 }
@@ -57,12 +66,12 @@ bags-fresh t olds fresh all new e o h w s = record {
   pairs = s.pairs;
   pairings = s.pairings;
   old_side = λ f. omega
-      (arith, if-not e.span.end t (f e) (omega (arith, o, h)), w (low t f), s.old_side f);
+      (arith, if-not e.span.end t (f e) (omega (arith, o, h)), w (below_split t f), s.old_side f);
   fresh_side = λ f. omega (
     arith,
     weigh-append f fresh (e ∷ []),
     if-le t e.span.start (f e) h,
-    w (high t f),
+    w (above_split t f),
     s.fresh_side f,
   );
   merged = λ f. omega
@@ -86,8 +95,8 @@ bags-pair t olds fresh all rest new p h o q w v s =
       old_side = λ f.
           omega (
             arith,
-            w (low t f),
-            v (low t f),
+            w (below_split t f),
+            v (below_split t f),
             s.old_side f,
             if-le p.first.span.end t (f p.first) (omega (arith, s1)),
             if-not p.second.span.end t (f p.second) q,
@@ -96,8 +105,8 @@ bags-pair t olds fresh all rest new p h o q w v s =
       fresh_side = λ f.
           omega (
             arith,
-            w (high t f),
-            v (high t f),
+            w (above_split t f),
+            v (above_split t f),
             s.fresh_side f,
             if-not t p.first.span.start (f p.first) o,
             if-le t p.second.span.start (f p.second) (omega (arith, s2)),

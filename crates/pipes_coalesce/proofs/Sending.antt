@@ -11,7 +11,7 @@ use Rattle.pipes_stream.specs.Lists.{run, start_of_list, beat, elements}
 use Rattle.pipes_stream.proofs.Messages.{run-push}
 use Rattle.pipes_coalesce.specs.Bags.{weigh}
 use Rattle.pipes_coalesce.specs.Tests.{starts_elsewhere, is_no_interval}
-use Rattle.pipes_coalesce.specs.Stands.{number, lone_from, now_of, Parts, Flows, Stays, Moves}
+use Rattle.pipes_coalesce.specs.Stands.{count_of, lone_from, now_of, Parts, Flows, Stays, Moves}
 use Rattle.pipes_coalesce.specs.Stands.{SameBut, IsBlocked, IsDue, Releases}
 use Rattle.pipes_coalesce.specs.declared.merge.Coalesce.{Coalesce}
 use Rattle.pipes_coalesce.proofs.Touching.{le-zero}
@@ -34,17 +34,17 @@ pub lone-goes : (c d : Coalesce) (xs : List Elem) (before now : List Message) �
 lone-goes c d xs before now y gone h w is =
     moves-many c d c.olds d.olds xs c.lone_start before now y.stays is sends (λ _ _. gone)
   where
-    keeps : number xs ≡ 0 → Keeps c d c.olds d.olds
+    keeps : count_of xs ≡ 0 → Keeps c d c.olds d.olds
     keeps z b os fs ss p =
         let none = none-is c.lone (omega (arith, z, w (λ _. 1))) in
         rw (y.olds, y.lone_start, y.partners, y.later, gone ∙ sym none) p
 
-    goes : 0 < number xs → (b : ℕ) (os fs ss : List Elem)
+    goes : 0 < count_of xs → (b : ℕ) (os fs ss : List Elem)
         → Parts c.split c.old_watch.beat c.fresh_watch.beat b c.lone_start c.olds c.lone c.partners
         c.later os fs ss
         → ManyGo c d c.olds d.olds xs c.lone_start b os fs ss
     goes n b os fs ss p =
-        let some : 0 < number c.lone = omega (arith, n, w (λ _. 1)) in
+        let some : 0 < count_of c.lone = omega (arith, n, w (λ _. 1)) in
         record {
           low = (p.lone_low some).0;
           at = omega (arith, w (starts_elsewhere c.lone_start), p.lone_at);
@@ -59,7 +59,7 @@ lone-goes c d xs before now y gone h w is =
 
 -- where no element starts below the heartbeat, none waits for a partner
 pub some-lone : (lone : List Elem) (s : ℕ)
-    → (lone ≡ []) ⊎ ((0 < number lone) × (lone_from lone s ≡ s))
+    → (lone ≡ []) ⊎ ((0 < count_of lone) × (lone_from lone s ≡ s))
 some-lone [] s = inl refl
 some-lone (x ∷ xs) s = inr (omega arith, refl)
 
@@ -68,7 +68,7 @@ pub none-lone : (c : Coalesce) (b : ℕ) (w os fs ss : List Elem) → c.split �
     os fs ss → c.lone ≡ []
 none-lone c b w os fs ss h p = by (some-lone c.lone c.lone_start)
   where
-    by : (c.lone ≡ []) ⊎ ((0 < number c.lone) × (lone_from c.lone c.lone_start ≡ c.lone_start))
+    by : (c.lone ≡ []) ⊎ ((0 < count_of c.lone) × (lone_from c.lone c.lone_start ≡ c.lone_start))
         → c.lone ≡ []
     by (inl n) = n
     by (inr n) = let low = (p.lone_low n.0).2 in absurd (omega (arith, h, n.1, low))
@@ -88,17 +88,17 @@ abbrev pub partners-go : (c d : Coalesce) (xs : List Elem) (before now : List Me
 partners-go c d xs before now y gone h blocked w is =
     moves-many c d c.olds d.olds xs c.split before now y.stays is sends (λ _ k. y.lone ∙ k)
   where
-    keeps : number xs ≡ 0 → Keeps c d c.olds d.olds
+    keeps : count_of xs ≡ 0 → Keeps c d c.olds d.olds
     keeps z b os fs ss p =
         let none = none-is c.partners (omega (arith, z, w (λ _. 1))) in
         rw (y.olds, y.lone_start, y.lone, y.later, gone ∙ sym none) p
 
-    goes : 0 < number xs → (b : ℕ) (os fs ss : List Elem)
+    goes : 0 < count_of xs → (b : ℕ) (os fs ss : List Elem)
         → Parts c.split c.old_watch.beat c.fresh_watch.beat b c.lone_start c.olds c.lone c.partners
         c.later os fs ss
         → ManyGo c d c.olds d.olds xs c.split b os fs ss
     goes n b os fs ss p =
-        let some : 0 < number c.partners = omega (arith, n, w (λ _. 1)) in
+        let some : 0 < count_of c.partners = omega (arith, n, w (λ _. 1)) in
         let alone = none-lone c b c.olds os fs ss h p in
         record {
           low = p.partners_low some;

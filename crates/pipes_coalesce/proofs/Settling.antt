@@ -3,6 +3,8 @@ use Rattle.std.proofs.Common.{◌≡◌, ◌≢◌, ℕ, suc, ◌+◌, ◌≤◌
 use Rattle.std.proofs.Common.{nat_lt, ◌&&◌, List, [], ◌∷◌, ◌++◌, refl, sym, ap, ◌∙◌, subst, arith}
 use Rattle.std.proofs.Common.{inl, inr, ◌⊎◌, append-nil, append_assoc}
 use Rattle.std.proofs.lemmas.Bool.{cases_lt, false≢true, leb-false}
+use Rattle.std.proofs.lemmas.Bool.{and_parts}
+use Rattle.pipes_stream.proofs.Following.{not_ended}
 use Rattle.pipes_time.specs.Interval.{closed, horizon, IsInterval}
 use Rattle.pipes_stream.specs.declared.Elem.{Elem}
 use Rattle.pipes_stream.specs.declared.message.Message.{Message}
@@ -15,11 +17,11 @@ use Rattle.pipes_stream.proofs.Messages.{valid-prefix, elements-append, beat-clo
 use Rattle.pipes_coalesce.specs.Bags.{weigh}
 use Rattle.pipes_coalesce.specs.Tests.{starts_above, starts_by, ends_elsewhere, is_no_interval}
 use Rattle.pipes_coalesce.specs.Filed.{StartsLater}
-use Rattle.pipes_coalesce.specs.Stands.{RisesFrom, number, lone_from, now_of, Parts, Flows}
+use Rattle.pipes_coalesce.specs.Stands.{ElemsRiseFrom, count_of, lone_from, now_of, Parts, Flows}
 use Rattle.pipes_coalesce.specs.Stands.{IsSettled, CoalesceStands, Stays, Moves, SameBut, IsBlocked}
-use Rattle.pipes_coalesce.specs.Stands.{Releases, tell, Settles}
-use Rattle.pipes_coalesce.specs.Stands.{EndsBy, StartsFrom, AdmitsOld, AdmitsFresh, TakesOld}
-use Rattle.pipes_coalesce.specs.Stands.{TakesFresh, HandsOver, Admits, Takes}
+use Rattle.pipes_coalesce.specs.Stands.{Releases, tell, SendsDue}
+use Rattle.pipes_coalesce.specs.Stands.{EndsBy, StartsFromSplit, AdmitsOld, AdmitsFresh, TakesOld}
+use Rattle.pipes_coalesce.specs.Stands.{TakesFresh, HandsOver, SideAdmits, SideTakes}
 use Rattle.pipes_coalesce.specs.declared.merge.Coalesce.{Coalesce}
 use Rattle.pipes_coalesce.specs.declared.merge.Side.{Side}
 use Rattle.pipes_coalesce.specs.declared.merge.Side.TheVariants as side
@@ -29,11 +31,11 @@ use Rattle.pipes_coalesce.proofs.Moving.{moves-then, stays-then}
 use Rattle.pipes_coalesce.proofs.Sending.{some-lone}
 
 -- ---- how far what was sent is
-later-from : (n b : ℕ) (es : List Elem) → StartsLater n es → RisesFrom b es → RisesFrom n es
+later-from : (n b : ℕ) (es : List Elem) → StartsLater n es → ElemsRiseFrom b es → ElemsRiseFrom n es
 later-from n b [] h r = tt
 later-from n b (e ∷ es) h r = (omega (arith, h), r.1, r.2)
 
-none-by : (n b : ℕ) (es : List Elem) → n < b → RisesFrom b es → weigh (starts_by n) es ≡ 0
+none-by : (n b : ℕ) (es : List Elem) → n < b → ElemsRiseFrom b es → weigh (starts_by n) es ≡ 0
 none-by n b [] h r = refl
 none-by n b (e ∷ es) h r =
     omega (
@@ -42,21 +44,21 @@ none-by n b (e ∷ es) h r =
       none-by n e.span.start es (omega (arith, h, r.0)) r.2,
     )
 
-later-none : (n b : ℕ) (es : List Elem) → StartsLater n es → RisesFrom b es
+later-none : (n b : ℕ) (es : List Elem) → StartsLater n es → ElemsRiseFrom b es
     → weigh (starts_by n) es ≡ 0
 later-none n b [] h r = refl
 later-none n b (e ∷ es) h r =
     omega (arith, not-le e.span.start n h, none-by n e.span.start es h r.2)
 
 olds-from : (n s : ℕ) (lone olds : List Elem) → (lone ≡ [] → olds ≡ [])
-    → (0 < number lone → (n ≤ s) × RisesFrom s olds) → RisesFrom n olds
+    → (0 < count_of lone → (n ≤ s) × ElemsRiseFrom s olds) → ElemsRiseFrom n olds
 olds-from n s [] olds none low = rw (none refl) tt
 olds-from n s (x ∷ xs) olds none low = let l = low (omega arith) in rises-below n s olds l.0 l.1
 
 level-rises : (t ob fb b s : ℕ) (olds lone partners later os fs ss : List Elem)
     → Parts t ob fb b s olds lone partners later os fs ss → (n : ℕ) → b ≤ n → n ≤ ob
-    → n ≤ max t fb → (0 < number lone → n ≤ s) → (lone ≡ [] → olds ≡ [])
-    → (0 < number partners → n ≤ t) → StartsLater n later
+    → n ≤ max t fb → (0 < count_of lone → n ≤ s) → (lone ≡ [] → olds ≡ [])
+    → (0 < count_of partners → n ≤ t) → StartsLater n later
     → Parts t ob fb n s olds lone partners later os fs ss
 level-rises t ob fb b s olds lone partners later os fs ss p n h k l low none single late = record {
   old_beat = k;
@@ -81,7 +83,7 @@ level-rises t ob fb b s olds lone partners later os fs ss p n h k l low none sin
 }
 
 -- the heartbeat is no lower than what was sent
-lone-start : (lone : List Elem) (s n : ℕ) → n ≤ lone_from lone s → 0 < number lone → n ≤ s
+lone-start : (lone : List Elem) (s n : ℕ) → n ≤ lone_from lone s → 0 < count_of lone → n ≤ s
 lone-start [] s n h q = absurd (omega (arith, q))
 lone-start (x ∷ xs) s n h q = h
 
@@ -91,7 +93,7 @@ parts-now : (c : Coalesce) (w os fs ss : List Elem) (b : ℕ) → c.old_watch.be
 parts-now c w os fs ss b h p =
     omega (arith, p.old_beat, p.fresh_beat, low (some-lone c.lone c.lone_start))
   where
-    low : (c.lone ≡ []) ⊎ ((0 < number c.lone) × (lone_from c.lone c.lone_start ≡ c.lone_start))
+    low : (c.lone ≡ []) ⊎ ((0 < count_of c.lone) × (lone_from c.lone c.lone_start ≡ c.lone_start))
         → b ≤ lone_from c.lone c.lone_start
     low (inl none) =
         let q : lone_from c.lone c.lone_start ≡ closed =
@@ -144,11 +146,6 @@ tells true p beat_sent now o q r s e =
 tells false p beat_sent now o q r s e = tells-late (nat_lt beat_sent now) p beat_sent now refl o q r
     s
 
-both-true : (a b : Bool) → (a && b) ≡ true → (a ≡ true) × (b ≡ true)
-both-true true true h = (refl, refl)
-both-true true false h = absurd (false≢true h)
-both-true false b h = absurd (false≢true h)
-
 -- no old element waits for a partner at the end of time
 pub none-there : (t : ℕ) (es : List Elem) → closed ≤ t → weigh (ends_elsewhere t) es ≡ 0
     → weigh is_no_interval es ≡ 0 → es ≡ []
@@ -162,7 +159,7 @@ at-end : (c : Coalesce) (olds fresh sent : List Message) → Flows c c.olds olds
     → (c.split < c.fresh_watch.beat → c.lone ≡ [])
     → (c.old_watch.ended && c.fresh_watch.ended) ≡ true → now_of c ≡ closed
 at-end c olds fresh sent f opened h =
-    let both = both-true c.old_watch.ended c.fresh_watch.ended h in
+    let both = and_parts c.old_watch.ended c.fresh_watch.ended h in
     let o : c.old_watch.beat ≡ closed = ap (λ (p : Progress). p.beat) f.old_watch
     ∙ beat-ended olds f.old_valid (sym (ap (λ (p : Progress). p.ended) f.old_watch) ∙ both.0) in
     let g : c.fresh_watch.beat ≡ closed = ap (λ (p : Progress). p.beat) f.fresh_watch
@@ -185,13 +182,14 @@ pub record AllSent (d : Coalesce) (at : ℕ) : Type 0 where
   pub partners_gone : d.split ≤ at → d.partners ≡ []
   pub late : StartsLater at d.later
 
-partners-wait : (t at : ℕ) (partners : List Elem) → (t ≤ at → partners ≡ []) → 0 < number partners
+partners-wait : (t at : ℕ) (partners : List Elem) → (t ≤ at → partners ≡ []) → 0 < count_of partners
     → at ≤ t
 partners-wait t at partners gone q = by (cases_lt at t)
   where
     by : (at < t) ⊎ (t ≤ at) → at ≤ t
     by (inl h) = omega (arith, h)
-    by (inr h) = let z : number partners ≡ 0 = ap number (gone h) in absurd (omega (arith, z, q))
+    by (inr h) = let z : count_of partners ≡ 0 = ap count_of (gone h) in absurd
+        (omega (arith, z, q))
 
 pub sent-stands : (d : Coalesce) (at beat_sent : ℕ) (olds fresh sent : List Message)
     → Flows d d.olds olds fresh sent → AllSent d at → beat_sent ≤ beat sent → beat sent ≤ at
@@ -243,7 +241,7 @@ pub settles : (c e f g d : Coalesce) (at beat_sent : ℕ) (before b1 b2 b3 b4 no
     → (f.split ≤ at → g.partners ≡ []) → Releases g d at b3 b4 → d.partners ≡ g.partners
     → StartsLater at d.later
     → now ≡ b4 ++ tell beat_sent at (d.old_watch.ended && d.fresh_watch.ended)
-    → Settles c d beat_sent before now
+    → SendsDue c d beat_sent before now
 settles c e f g d at beat_sent before b1 b2 b3 b4 now m1 gone m2 blocked is r3 g3 r4 p4 late out =
     let all = moves-then c e d c.olds e.olds d.olds before b1 b4 m1
     (moves-then e f d e.olds f.olds d.olds b1 b2 b4 m2
@@ -301,12 +299,6 @@ settles c e f g d at beat_sent before b1 b2 b3 b4 now m1 gone m2 blocked is r3 g
           (omega (arith, low, up)) wd);
     }
 
--- ---- whole calls
-before-end : (p : Progress) (m : Message) → CanFollow p m → p.ended ≡ false
-before-end p (message.Elem e) w = w.0
-before-end p (message.Beat at) w = w.0
-before-end p message.End w = w
-
 and-false : (a b : Bool) → (a ≡ false) ⊎ (b ≡ false) → (a && b) ≡ false
 and-false true b (inl h) = absurd (false≢true (sym h))
 and-false false b h = refl
@@ -328,28 +320,28 @@ stands-flows c olds fresh sent s going = record {
 }
 
 pub takes-old : (c e d : Coalesce) (m : Message) (beat_sent : ℕ) (before now : List Message)
-    → beat_sent ≡ now_of c → AdmitsOld c e m → Settles e d beat_sent before now
+    → beat_sent ≡ now_of c → AdmitsOld c e m → SendsDue e d beat_sent before now
     → TakesOld c d m before now
 takes-old c e d m beat_sent before now is a s = record {
   more = s.more;
   appended = s.appended;
   stands = λ os fs ss st can low.
       let going : c.old_watch.ended ≡ false = ap (λ (p : Progress). p.ended) st.old_watch
-      ∙ before-end (run start_of_list os) m can in
+      ∙ not_ended (run start_of_list os) m can in
       let f = a.flows os fs ss (stands-flows c os fs ss st (inl going)) can low in
       s.stands (os ++ m ∷ []) fs ss f (omega (arith, is, st.sent_beat));
 }
 
 pub takes-fresh : (c e d : Coalesce) (m : Message) (beat_sent : ℕ) (before mid now : List Message)
     → beat_sent ≡ now_of c → AdmitsFresh c e m before mid
-    → Settles e d beat_sent mid now → TakesFresh c d m before now
+    → SendsDue e d beat_sent mid now → TakesFresh c d m before now
 takes-fresh c e d m beat_sent before mid now is a s = record {
   more = a.more ++ s.more;
   appended = s.appended ∙ ap (λ (ms : List Message). ms ++ s.more) a.appended
       ∙ append_assoc before a.more s.more;
   stands = λ os fs ss st can high.
       let going : c.fresh_watch.ended ≡ false = ap (λ (p : Progress). p.ended) st.fresh_watch
-      ∙ before-end (run start_of_list fs) m can in
+      ∙ not_ended (run start_of_list fs) m can in
       let f = a.flows os fs ss (stands-flows c os fs ss st (inr going)) can high in
       let up = beat-grows ss a.more f.sent_valid in
       subst (λ (ms : List Message). CoalesceStands d os (fs ++ m ∷ []) ms)
@@ -359,11 +351,11 @@ takes-fresh c e d m beat_sent before mid now is a s = record {
 
 pub takes-side : (s : Side) (c e d : Coalesce) (m : Message) (beat_sent : ℕ)
     (before mid now : List Message)
-    → beat_sent ≡ now_of c → Admits s c e m before mid → Settles e d beat_sent mid now
-    → Takes s c d m before now
+    → beat_sent ≡ now_of c → SideAdmits s c e m before mid → SendsDue e d beat_sent mid now
+    → SideTakes s c d m before now
 takes-side side.Old c e d m beat_sent before mid now is a s =
     takes-old c e d m beat_sent before now is a.0
-    (subst (λ (ms : List Message). Settles e d beat_sent ms now) a.1 s)
+    (subst (λ (ms : List Message). SendsDue e d beat_sent ms now) a.1 s)
 takes-side side.Fresh c e d m beat_sent before mid now is a s =
     takes-fresh c e d m beat_sent before mid now is a s
 
@@ -440,12 +432,12 @@ fresh-over c b e d m sent before now y olds t h out = record {
   stands = λ os fs ss st can high.
       stands-same e d os (fs ++ m ∷ []) (ss ++ t.more) h.same h.olds
       (t.stands os fs ss (stands-same c b os fs ss y olds st) can
-      (subst (λ (n : ℕ). StartsFrom n m) (sym y.stays.split) high));
+      (subst (λ (n : ℕ). StartsFromSplit n m) (sym y.stays.split) high));
 }
 
 pub side-over : (s : Side) (c b e d : Coalesce) (m : Message) (none sent before now : List Message)
-    → SameBut c b → b.olds ≡ c.olds → none ≡ [] → Takes s b e m none sent → HandsOver e d
-    → now ≡ before ++ sent → Takes s c d m before now
+    → SameBut c b → b.olds ≡ c.olds → none ≡ [] → SideTakes s b e m none sent → HandsOver e d
+    → now ≡ before ++ sent → SideTakes s c d m before now
 side-over side.Old c b e d m none sent before now y olds is t h out =
     old-over c b e d m sent before now y olds
     (subst (λ (ms : List Message). TakesOld b e m ms sent) is t) h out

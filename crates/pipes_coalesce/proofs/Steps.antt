@@ -11,7 +11,7 @@ use Rattle.pipes_coalesce.specs.Tests.{is_no_interval, touch, touching}
 use Rattle.pipes_coalesce.specs.Filed.{has_tuple, Added, TakenOut}
 use Rattle.pipes_coalesce.specs.Joined.{IsJoint}
 use Rattle.pipes_coalesce.specs.Merging.{Pairing, IsPairing, Bags}
-use Rattle.pipes_coalesce.specs.Stands.{RisesFrom, number, Parts}
+use Rattle.pipes_coalesce.specs.Stands.{ElemsRiseFrom, count_of, Parts}
 use Rattle.pipes_coalesce.proofs.Weights.{weigh-append, weigh-none}
 use Rattle.pipes_coalesce.proofs.Touching.{not-lt, is-lt, lt-zero, not-le, le-zero, not-eq, is-else}
 use Rattle.pipes_coalesce.proofs.Touching.{else-zero, no-interval, interval-zero, above-more}
@@ -23,12 +23,12 @@ use Rattle.pipes_coalesce.proofs.Touching.{touching-across}
 use Rattle.pipes_coalesce.proofs.Pairs.{bags-same, bags-old, bags-fresh, bags-pair}
 
 -- ---- lists in order
-pub rises-below : (a b : ℕ) (es : List Elem) → a ≤ b → RisesFrom b es → RisesFrom a es
+pub rises-below : (a b : ℕ) (es : List Elem) → a ≤ b → ElemsRiseFrom b es → ElemsRiseFrom a es
 rises-below a b [] h r = tt
 rises-below a b (e ∷ es) h r = (omega (arith, h, r.0), r.1, r.2)
 
-pub rises-above : (a b t : ℕ) (es : List Elem) → RisesFrom b es → weigh (starts_by t) es ≡ 0
-    → a ≤ t + 1 → RisesFrom a es
+pub rises-above : (a b t : ℕ) (es : List Elem) → ElemsRiseFrom b es → weigh (starts_by t) es ≡ 0
+    → a ≤ t + 1 → ElemsRiseFrom a es
 rises-above a b t [] r z h = tt
 rises-above a b t (e ∷ es) r z h = (
   let k : t < e.span.start = le-zero e.span.start t (omega (arith, z)) in
@@ -37,9 +37,9 @@ rises-above a b t (e ∷ es) r z h = (
   r.2,
 )
 
-pub rises-push : (b o : ℕ) (es : List Elem) (e : Elem) → RisesFrom b es
+pub rises-push : (b o : ℕ) (es : List Elem) (e : Elem) → ElemsRiseFrom b es
     → weigh (starts_above o) es ≡ 0 → o ≤ e.span.start → b ≤ e.span.start
-    → IsInterval e.span.start e.span.end → RisesFrom b (es ++ e ∷ [])
+    → IsInterval e.span.start e.span.end → ElemsRiseFrom b (es ++ e ∷ [])
 rises-push b o [] e r z h k i = (k, i, tt)
 rises-push b o (x ∷ es) e r z h k i =
     let l : x.span.start ≤ o = lt-zero o x.span.start (omega (arith, z)) in
@@ -74,7 +74,7 @@ sent-low b c ss h z = zero-of (starts_above c) (starts_above b) ss
 -- ---- an old element e is the next to pass
 module _ (t ob fb b s : ℕ) (e : Elem) (rest lone partners later os fs ss : List Elem)
     (p : Parts t ob fb b s (e ∷ rest) lone partners later os fs ss)
-    (can : 0 < number lone → e.span.start ≡ s) where
+    (can : 0 < count_of lone → e.span.start ≡ s) where
   e-from : b ≤ e.span.start
   e-from = p.olds_rise.0
 
@@ -110,14 +110,19 @@ module _ (t ob fb b s : ℕ) (e : Elem) (rest lone partners later os fs ss : Lis
   goes x left g = record {
     old_beat = omega (arith, g.start, e-low);
     fresh_beat = omega (arith, g.start, e-before);
-    olds_rise = subst (λ (n : ℕ). RisesFrom n rest) (sym g.start) p.olds_rise.2;
+    olds_rise = subst (λ (n : ℕ). ElemsRiseFrom n rest) (sym g.start) p.olds_rise.2;
     olds_low = rest-low;
     olds_end = rest-end;
     lone_at = p.lone_at;
     lone_end = p.lone_end;
     lone_are = p.lone_are;
-    lone_low = λ h. let q = can h in let l = p.lone_low h in
-        (omega (arith, g.start, q), l.1, l.2, subst (λ (n : ℕ). RisesFrom n rest) q p.olds_rise.2);
+    lone_low = λ h. let q = can h in let l = p.lone_low h in (
+      omega (arith, g.start, q),
+      l.1,
+      l.2,
+      subst (λ (n : ℕ). ElemsRiseFrom n rest) q
+          p.olds_rise.2,
+    );
     partners_at = g.at;
     partners_low = λ h. omega (arith, g.start, e-before);
     partners_are = g.are;
@@ -176,7 +181,7 @@ module _ (t ob fb b s : ℕ) (e : Elem) (rest lone partners later os fs ss : Lis
         arith,
         near-of (touch t e) ss lone partners,
         in-sent,
-        in-lone (cases_lt 0 (number lone)),
+        in-lone (cases_lt 0 (count_of lone)),
         in-partners,
       )
     where
@@ -184,7 +189,7 @@ module _ (t ob fb b s : ℕ) (e : Elem) (rest lone partners later os fs ss : Lis
       in-sent = zero-of (touch t e) (starts_above b) ss
           (λ x. touch-later t b e x (omega (arith, e-from, e-before))) p.sent_low
 
-      in-lone : (0 < number lone) ⊎ (number lone ≤ 0) → weigh (touch t e) lone ≡ 0
+      in-lone : (0 < count_of lone) ⊎ (count_of lone ≤ 0) → weigh (touch t e) lone ≡ 0
       in-lone (inl h) = zero-of (touch t e) (starts_elsewhere s) lone
           (λ x. touch-elsewhere t s e x (p.lone_low h).2) p.lone_at
       in-lone (inr h) = none-weighs (touch t e) lone (omega (arith, h))
@@ -229,7 +234,7 @@ module _ (t ob fb b s : ℕ) (e : Elem) (rest lone partners later os fs ss : Lis
       arith,
       put (starts_elsewhere e.span.start),
       is-else e.span.start e.span.start refl,
-      was-at (cases_lt 0 (number lone)),
+      was-at (cases_lt 0 (count_of lone)),
     );
     lone_end = omega (arith, put (ends_elsewhere t), is-else e.span.end t end, p.lone_end);
     lone_are = omega
@@ -255,7 +260,7 @@ module _ (t ob fb b s : ℕ) (e : Elem) (rest lone partners later os fs ss : Lis
         )) p.bags;
   }
     where
-      was-at : (0 < number lone) ⊎ (number lone ≤ 0)
+      was-at : (0 < count_of lone) ⊎ (count_of lone ≤ 0)
           → weigh (starts_elsewhere e.span.start) lone ≡ 0
       was-at (inl h) = subst (λ (n : ℕ). weigh (starts_elsewhere n) lone ≡ 0)
           (sym (can h)) p.lone_at

@@ -43,9 +43,9 @@ abbrev pub TakenOut : Elem → List Elem → List Elem → Type 0
 TakenOut e old new = (f : Elem → ℕ) → weigh f old ≡ f e + weigh f new
 
 -- an element of the tuple was taken out, if there was one
-abbrev pub Finds : List Value → List Elem → List Elem → Option Elem → Type 0
-Finds t old new None = (new ≡ old) × (weigh (has_tuple t) old ≡ 0)
-Finds t old new (Some e) = (e.tuple ≡ t) × TakenOut e old new
+abbrev pub TakesOfTuple : List Value → List Elem → List Elem → Option Elem → Type 0
+TakesOfTuple t old new None = (new ≡ old) × (weigh (has_tuple t) old ≡ 0)
+TakesOfTuple t old new (Some e) = (e.tuple ≡ t) × TakenOut e old new
 
 -- a queue was taken out
 pub record QueueOut (queue old new : List Elem) : Type 0 where

@@ -24,11 +24,11 @@ ArePairings split (p ∷ ps) = IsPairing split p × ArePairings split ps
 
 -- the weight of the elements that end at or below the split, of those that start at or above it,
 -- and of those across it
-abbrev pub low : ℕ → (Elem → ℕ) → Elem → ℕ
-low split f e = cond (nat_le e.span.end split) (f e) 0
+abbrev pub below_split : ℕ → (Elem → ℕ) → Elem → ℕ
+below_split split f e = cond (nat_le e.span.end split) (f e) 0
 
-abbrev pub high : ℕ → (Elem → ℕ) → Elem → ℕ
-high split f e = cond (nat_le split e.span.start) (f e) 0
+abbrev pub above_split : ℕ → (Elem → ℕ) → Elem → ℕ
+above_split split f e = cond (nat_le split e.span.start) (f e) 0
 
 abbrev pub across : ℕ → (Elem → ℕ) → Elem → ℕ
 across split f e = cond (nat_lt e.span.start split && nat_lt split e.span.end) (f e) 0
@@ -38,7 +38,7 @@ pub record Bags (split : ℕ) (olds fresh all : List Elem) : Type 0 where
   pub pairs : List Pairing
   pub pairings : ArePairings split pairs
   pub old_side : (f : Elem → ℕ)
-      → weigh f olds ≡ weigh (low split f) all + weigh (λ (p : Pairing). f p.first) pairs
+      → weigh f olds ≡ weigh (below_split split f) all + weigh (λ (p : Pairing). f p.first) pairs
   pub fresh_side : (f : Elem → ℕ)
-      → weigh f fresh ≡ weigh (high split f) all + weigh (λ (p : Pairing). f p.second) pairs
+      → weigh f fresh ≡ weigh (above_split split f) all + weigh (λ (p : Pairing). f p.second) pairs
   pub merged : (f : Elem → ℕ) → weigh (across split f) all ≡ weigh (λ (p : Pairing). f p.both) pairs

@@ -25,10 +25,10 @@ EndsBy split (message.Elem e) = e.span.end ≤ split
 EndsBy split (message.Beat at) = ⊤
 EndsBy split message.End = ⊤
 
-abbrev pub StartsFrom : ℕ → Message → Type 0
-StartsFrom split (message.Elem e) = split ≤ e.span.start
-StartsFrom split (message.Beat at) = ⊤
-StartsFrom split message.End = ⊤
+abbrev pub StartsFromSplit : ℕ → Message → Type 0
+StartsFromSplit split (message.Elem e) = split ≤ e.span.start
+StartsFromSplit split (message.Beat at) = ⊤
+StartsFromSplit split message.End = ⊤
 
 abbrev pub lone_from : List Elem → ℕ → ℕ
 lone_from [] s = closed
@@ -51,13 +51,13 @@ IsMergedFor c Stands =
     → Merged c.split olds fresh sent (held_of c)
 
 -- ---- the state, by its lists; the rest of this file is for private functions
-abbrev pub RisesFrom : ℕ → List Elem → Type 0
-RisesFrom b [] = ⊤
-RisesFrom b (e ∷ es) = (b ≤ e.span.start) × IsInterval e.span.start e.span.end
-    × RisesFrom e.span.start es
+abbrev pub ElemsRiseFrom : ℕ → List Elem → Type 0
+ElemsRiseFrom b [] = ⊤
+ElemsRiseFrom b (e ∷ es) = (b ≤ e.span.start) × IsInterval e.span.start e.span.end
+    × ElemsRiseFrom e.span.start es
 
-abbrev pub number : List Elem → ℕ
-number es = weigh (λ _. 1) es
+abbrev pub count_of : List Elem → ℕ
+count_of es = weigh (λ _. 1) es
 
 -- The old elements `lone` wait for a partner and all start at s, and the old elements `olds` wait
 -- for those. The fresh elements `partners` start at the split and `later` above it. The sides'
@@ -66,17 +66,17 @@ pub record Parts (split ob fb b s : ℕ)
     (olds lone partners later old_ones fresh_ones sent : List Elem) : Type 0 where
   pub old_beat : b ≤ ob
   pub fresh_beat : b ≤ max split fb
-  pub olds_rise : RisesFrom b olds
+  pub olds_rise : ElemsRiseFrom b olds
   pub olds_low : weigh (starts_above ob) olds ≡ 0
   pub olds_end : weigh (ends_above split) olds ≡ 0
   pub lone_at : weigh (starts_elsewhere s) lone ≡ 0
   pub lone_end : weigh (ends_elsewhere split) lone ≡ 0
   pub lone_are : weigh is_no_interval lone ≡ 0
-  pub lone_low : 0 < number lone → (b ≤ s) × (s ≤ ob) × (s < split) × RisesFrom s olds
+  pub lone_low : 0 < count_of lone → (b ≤ s) × (s ≤ ob) × (s < split) × ElemsRiseFrom s olds
   pub partners_at : weigh (starts_elsewhere split) partners ≡ 0
-  pub partners_low : 0 < number partners → b ≤ split
+  pub partners_low : 0 < count_of partners → b ≤ split
   pub partners_are : weigh is_no_interval partners ≡ 0
-  pub later_rise : RisesFrom b later
+  pub later_rise : ElemsRiseFrom b later
   pub later_high : weigh (starts_by split) later ≡ 0
   pub later_low : weigh (starts_above fb) later ≡ 0
   pub sent_low : weigh (starts_above b) sent ≡ 0
@@ -174,7 +174,7 @@ pub record Moves (c d : Coalesce) (waiting left : List Elem)
 
 -- an element of all that waits starts where the lone ones do, if there are any
 abbrev pub CanPass : Coalesce → Elem → Type 0
-CanPass c e = 0 < number c.lone → e.span.start ≡ c.lone_start
+CanPass c e = 0 < count_of c.lone → e.span.start ≡ c.lone_start
 
 -- nothing else was changed
 pub record SameBut (c d : Coalesce) : Type 0 where
@@ -218,12 +218,12 @@ pub record AdmitsFresh (c d : Coalesce) (m : Message) (before now : List Message
   pub appended : now ≡ before ++ more
   pub flows : (olds fresh sent : List Message) → Flows c c.olds olds fresh sent
       → CanFollow (run start_of_list fresh) m
-      → StartsFrom c.split m → Flows d d.olds olds (fresh ++ m ∷ []) (sent ++ more)
+      → StartsFromSplit c.split m → Flows d d.olds olds (fresh ++ m ∷ []) (sent ++ more)
 
 -- a message of this side was taken in
-abbrev pub Admits : Side → Coalesce → Coalesce → Message → List Message → List Message → Type 0
-Admits side.Old c d m before now = AdmitsOld c d m × (now ≡ before)
-Admits side.Fresh c d m before now = AdmitsFresh c d m before now
+abbrev pub SideAdmits : Side → Coalesce → Coalesce → Message → List Message → List Message → Type 0
+SideAdmits side.Old c d m before now = AdmitsOld c d m × (now ≡ before)
+SideAdmits side.Fresh c d m before now = AdmitsFresh c d m before now
 
 -- the next fresh element above the split was taken out, and is due
 pub record IsDue (c d : Coalesce) (at : ℕ) (e : Elem) : Type 0 where
@@ -250,7 +250,7 @@ tell beat_sent now true = message.End ∷ []
 tell beat_sent now false = cond (nat_lt beat_sent now) (message.Beat now ∷ []) []
 
 -- all that can go was sent, and then how far that is
-pub record Settles (c d : Coalesce) (beat_sent : ℕ) (before now : List Message) : Type 0 where
+pub record SendsDue (c d : Coalesce) (beat_sent : ℕ) (before now : List Message) : Type 0 where
   pub stays : Stays c d
   pub more : List Message
   pub appended : now ≡ before ++ more
@@ -271,11 +271,11 @@ pub record TakesFresh (c d : Coalesce) (m : Message) (before now : List Message)
   pub appended : now ≡ before ++ more
   pub stands : (olds fresh sent : List Message) → CoalesceStands c olds fresh sent
       → CanFollow (run start_of_list fresh) m
-      → StartsFrom c.split m → CoalesceStands d olds (fresh ++ m ∷ []) (sent ++ more)
+      → StartsFromSplit c.split m → CoalesceStands d olds (fresh ++ m ∷ []) (sent ++ more)
 
-abbrev pub Takes : Side → Coalesce → Coalesce → Message → List Message → List Message → Type 0
-Takes side.Old c d m before now = TakesOld c d m before now
-Takes side.Fresh c d m before now = TakesFresh c d m before now
+abbrev pub SideTakes : Side → Coalesce → Coalesce → Message → List Message → List Message → Type 0
+SideTakes side.Old c d m before now = TakesOld c d m before now
+SideTakes side.Fresh c d m before now = TakesFresh c d m before now
 
 -- all is as it was, but the buffer of what was sent
 pub record HandsOver (c d : Coalesce) : Type 0 where

@@ -3,7 +3,8 @@ ghost use Rattle.std.specs.Prelude.{◌≡◌, ◌≤◌, ◌<◌, ◌-◌, ◌^
 ghost use Rattle.std.specs.Prelude.{IfOk, MatchOption, IsTrue, length, None, Some, ⊤};
 ghost use Rattle.pipes_stream.specs.declared.message.Message.TheVariants as message;
 ghost use Rattle.pipes_coalesce.specs.Bags.{SameMembers};
-ghost use Rattle.pipes_coalesce.specs.Filed.{contents, AreFiled, EntryAt, Added, Finds, QueueOut};
+ghost use Rattle.pipes_coalesce.specs.Filed.{contents, AreFiled, EntryAt, Added, TakesOfTuple};
+ghost use Rattle.pipes_coalesce.specs.Filed.{QueueOut};
 ghost use Rattle.pipes_coalesce.specs.Filed.{SendsAll};
 
 use crate::queue::Queue;
@@ -86,7 +87,7 @@ fn take_first(table: &mut IndexMap<Tuple, Queue>, place: usize, tuple: &Tuple) -
     requires filed { AreFiled table.old.entries }
     requires place { EntryAt table.old.entries place tuple.now (λ queue. 1 < length queue) }
     ensures filed { AreFiled table.new.entries }
-    ensures found { Finds tuple.now (contents table.old.entries) (contents table.new.entries)
+    ensures found { TakesOfTuple tuple.now (contents table.old.entries) (contents table.new.entries)
         result }
 {
     match table.get_index_mut(place) {
@@ -103,7 +104,7 @@ fn take_only(table: &mut IndexMap<Tuple, Queue>, place: usize, tuple: &Tuple) ->
     requires filed { AreFiled table.old.entries }
     requires place { EntryAt table.old.entries place tuple.now (λ queue. length queue ≡ 1) }
     ensures filed { AreFiled table.new.entries }
-    ensures found { Finds tuple.now (contents table.old.entries) (contents table.new.entries)
+    ensures found { TakesOfTuple tuple.now (contents table.old.entries) (contents table.new.entries)
         result }
 {
     match table.swap_remove_index(place) {
@@ -115,7 +116,7 @@ fn take_only(table: &mut IndexMap<Tuple, Queue>, place: usize, tuple: &Tuple) ->
 fn take_from(table: &mut IndexMap<Tuple, Queue>, tuple: &Tuple) -> Option<Elem>
     requires { AreFiled table.old.entries }
     ensures filed { AreFiled table.new.entries }
-    ensures found { Finds tuple.now (contents table.old.entries) (contents table.new.entries)
+    ensures found { TakesOfTuple tuple.now (contents table.old.entries) (contents table.new.entries)
         result }
 {
     match table.get_full(tuple) {
@@ -176,7 +177,7 @@ impl ByTuple {
 
     // Takes out the element of this tuple that came first, if there is one.
     pub fn take(&mut self, tuple: &Tuple) -> Option<Elem>
-        ensures { Finds tuple.now self.old self.new result }
+        ensures { TakesOfTuple tuple.now self.old self.new result }
     {
         match take_from(&mut self.table, tuple) {
             Some(elem) => {

@@ -74,9 +74,9 @@ impl Coalesce {
     ghost use Rattle.pipes_coalesce.specs.Stands.{CoalesceStands, now_of, held_of, Stays};
     ghost use Rattle.pipes_coalesce.specs.Stands.{IsBeatOfSent, IsWhetherOver};
     ghost use Rattle.pipes_coalesce.specs.Stands.{Moves, CanPass, IsNext, IsBlocked, AdmitsOld};
-    ghost use Rattle.pipes_coalesce.specs.Stands.{AdmitsFresh, Settles, TakesOld, TakesFresh};
+    ghost use Rattle.pipes_coalesce.specs.Stands.{AdmitsFresh, SendsDue, TakesOld, TakesFresh};
     ghost use Rattle.pipes_coalesce.specs.Stands.{LacksTuple, AdmitsElem, IsDue, Releases, tell};
-    ghost use Rattle.pipes_coalesce.specs.Stands.{HandsOver, IsMerged, Admits, Takes};
+    ghost use Rattle.pipes_coalesce.specs.Stands.{HandsOver, IsMerged, SideAdmits, SideTakes};
 
     /// The merge at this split, which has taken nothing. No memory is taken.
     pub fn two(alloc: Global, split: u64) -> Coalesce
@@ -300,7 +300,7 @@ impl Coalesce {
 
     // Sends what can go, and tells how far that is.
     fn settle(&mut self, beat_sent: u64, out: &mut Vec<Message>) -> Result<(), Memory>
-        ensures { OnOk result (Settles self.old self.new beat_sent out.old.items out.new.items) }
+        ensures { OnOk result (SendsDue self.old self.new beat_sent out.old.items out.new.items) }
     {
         self.let_go(out)?;
         self.advance(out)?;
@@ -313,7 +313,7 @@ impl Coalesce {
     // Takes in a message of this side.
     fn admit(&mut self, side: Side, message: Message, out: &mut Vec<Message>) -> Result<(), Memory>
         ensures { OnOk result
-            (Admits side self.old self.new message out.old.items out.new.items) }
+            (SideAdmits side self.old self.new message out.old.items out.new.items) }
     {
         match side {
             Side::Old => self.admit_old(message),
@@ -323,7 +323,7 @@ impl Coalesce {
 
     fn step(&mut self, side: Side, message: Message, out: &mut Vec<Message>) -> Result<(), Memory>
         ensures takes { OnOk result
-            (Takes side self.old self.new message out.old.items out.new.items) }
+            (SideTakes side self.old self.new message out.old.items out.new.items) }
         ensures failed { OnOk result (self.new.failed ≡ self.old.failed) }
         ensures split { OnOk result (self.new.split ≡ self.old.split) }
     {
@@ -362,7 +362,7 @@ impl Coalesce {
         out: &mut Vec<Message>,
     ) -> Result<(), Memory>
         ensures takes { OnOk result
-            (Takes side self.old self.new message out.old.items out.new.items) }
+            (SideTakes side self.old self.new message out.old.items out.new.items) }
         ensures failed { OnOk result (self.new.failed ≡ self.old.failed) }
         ensures split { OnOk result (self.new.split ≡ self.old.split) }
         ensures memory { OnErr result (out.new.items ≡ out.old.items) }
@@ -376,7 +376,7 @@ impl Coalesce {
     // Takes a message of this side.
     fn take(&mut self, side: Side, message: Message, out: &mut Vec<Message>) -> Result<(), Memory>
         ensures takes { OnOk result
-            (Takes side self.old self.new message out.old.items out.new.items) }
+            (SideTakes side self.old self.new message out.old.items out.new.items) }
         ensures split { self.new.split ≡ self.old.split }
         ensures memory { OnErr result (out.new.items ≡ out.old.items) }
         ensures fails { OnErr result (self.new.failed ≡ true) }

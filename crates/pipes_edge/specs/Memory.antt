@@ -16,8 +16,7 @@ pub record SureReading : Type 0 where
   pub left : List ℕ
 
 -- A sink in memory, which takes at most some bytes in one write. Its writes are counted from 1, and
--- those whose number
--- is listed fail.
+-- those whose number is listed fail.
 pub record Collecting : Type 0 where
   pub bytes : List ℕ
   pub most : ℕ

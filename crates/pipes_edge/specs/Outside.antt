@@ -13,9 +13,7 @@ abbrev pub no_files : Names
 no_files name = None
 
 -- Where the files are known: a found source has its file's bytes left, and a name is missing
--- exactly
--- where no file
--- has it.
+-- exactly where no file has it.
 abbrev pub Finds : {S : Type 0} → (S → Option (List ℕ)) → Option Names → List ℕ → Result S FindFault
     → Type 0
 Finds left None name r = ⊤

@@ -14,8 +14,7 @@ use std::{fs, rt};
 /// Files of the system, by their paths.
 ///
 /// What the system does after it isn't proved: that a search finds the file with that path, and
-/// finds none only where
-/// there is none.
+/// finds none only where there is none.
 #[derive(Drop)]
 pub struct HostFiles<R: rt::Files<File = File> + AllocGlobal + Drop> {
     rt: R,
@@ -113,9 +112,8 @@ impl<R: rt::Files<File = File> + AllocGlobal + Drop> Files for HostFiles<R> {
 
     ghost keeps = { λ f n. IsSome ((tally_of f).counts n) };
 
-    /// A path that the system doesn't find is missing, one for which it has no memory is want of
-    /// memory, and every other
-    /// error is a failed search.
+    /// A path that the system doesn't find is missing, one for which it has no memory is out of
+    /// memory, and every other error is a failed search.
     fn find_src(&mut self, name: &str) -> Result<HostSource, FindFault>
         ensures found { IfOk result (IsFoundAs (λ src. src.name) (λ src. 0) (λ src. src.faults)
             (λ n. IsSome ((tally_of self.new).counts n)) name.now) }

@@ -79,8 +79,7 @@ pub trait Source {
     ghost found_at: { Self → ℕ };
 
     /// Moves the next bytes into the start of the buffer and answers how many. 0 for a buffer that
-    /// isn't empty is
-    /// the end of the input; a read that failed moved nothing.
+    /// isn't empty is the end of the input; a read that failed moved nothing.
     fn read(&mut self, buf: &mut [u8]) -> Result<usize, Failed>
         ensures bound { ReadsAtMost result buf.new }
         ensures bytes { ReadConsumes (left self.old) (left self.new) result buf.new }
@@ -98,8 +97,7 @@ pub trait Sink {
     ghost faults: { Self → ℕ };
 
     /// Takes the first bytes of the piece and answers how many bytes that was; a write that failed
-    /// took
-    /// none.
+    /// took none.
     fn write(&mut self, bytes: &[u8]) -> Result<usize, Failed>
         ensures bound { TakesSome result bytes.now }
         ensures bytes { WriteAppends (written self.old) (written self.new) result bytes.now }

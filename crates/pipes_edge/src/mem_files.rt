@@ -42,8 +42,7 @@ impl MemFiles {
     }
 
     /// Puts a file with these bytes under the name, in the place of one that was there. Sources
-    /// that were found before
-    /// keep the old bytes.
+    /// that were found before keep the old bytes.
     pub fn add(&mut self, name: &str, bytes: &[u8]) -> Result<(), Memory>
         ensures ok { OnOk result (shelf_of self.new ≡ record (shelf_of self.old)
             { files = set_at (shelf_of self.old).files name.now (Some bytes.now) }) }
@@ -54,9 +53,8 @@ impl MemFiles {
     }
 
     /// Lets the read with this number fail too, in each source that is found under the name from
-    /// now on, whether or not
-    /// a file has the name yet. Each source counts its own reads, from 1 on; 0 is the number of
-    /// none.
+    /// now on, whether or not a file has the name yet. Each source counts its own reads, from 1 on;
+    /// 0 is the number of none.
     pub fn fail_at(&mut self, name: &str, call: u64) -> Result<(), Memory>
         ensures ok { OnOk result (shelf_of self.new ≡ record (shelf_of self.old) {
           failing = set_at (shelf_of self.old).failing name.now

@@ -80,8 +80,7 @@ impl Sink for MemSink {
     ghost faults = { λ s. s.faults };
 
     /// Takes as many bytes of the piece as one write may, unless the number of this write is
-    /// listed. Where no memory is
-    /// left it fails too.
+    /// listed. Where no memory is left it fails too.
     fn write(&mut self, bytes: &[u8]) -> Result<usize, Failed>
         ensures bound { TakesSome result bytes.now }
         ensures bytes { WriteAppends (Some self.old.bytes) (Some self.new.bytes) result bytes.now }

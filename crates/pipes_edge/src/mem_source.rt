@@ -12,8 +12,7 @@ use std::marker::Model;
 /// A source over a file in memory, found by [`MemFiles`](crate::MemFiles). It tells its bytes.
 ///
 /// The reads that fail are those that were listed when the source was found. A number is that of a
-/// read of this
-/// source, from 1 on; past the greatest `u64` the number stays there.
+/// read of this source, from 1 on; past the greatest `u64` the number stays there.
 #[derive(Debug, Drop)]
 pub struct MemSource {
     name: String,

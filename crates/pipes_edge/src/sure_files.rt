@@ -51,8 +51,7 @@ impl SureFiles {
     }
 
     /// Puts a file with these bytes under the name, in the place of one that was there. Sources
-    /// that were found before
-    /// keep the old bytes.
+    /// that were found before keep the old bytes.
     pub fn add(&mut self, name: &str, bytes: &[u8]) -> Result<(), Memory>
         ensures ok { OnOk result (sure_names self.new ≡ set_at (sure_names self.old) name.now
             (Some bytes.now)) }

@@ -5,6 +5,7 @@ use Rattle.std.specs.Cmp.{IsEquivalence}
 use Rattle.std.proofs.Common.{ap, sym, subst, ◌∙◌}
 use Rattle.std.proofs.lemmas.Bool.{false≢true}
 use Rattle.std.proofs.lemmas.Bool.Decides.{same_from_decides, Decides-like, Decides-eqb}
+use Rattle.std.proofs.lemmas.Bool.{and_parts}
 use base.Stored.{Gv, gnil, gnum, gcons, Coded}
 
 abbrev code_eq : Gv → Gv → Bool
@@ -13,16 +14,11 @@ code_eq (gnum m) (gnum n) = m == n
 code_eq (gcons a b) (gcons c d) = code_eq a c && code_eq b d
 code_eq _ _ = false
 
-both_true : (x y : Bool) → (x && y) ≡ true → (x ≡ true) × (y ≡ true)
-both_true true true h = (refl, refl)
-both_true true false h = absurd (false≢true h)
-both_true false y h = absurd (false≢true h)
-
 code_eq-same : (a b : Gv) → code_eq a b ≡ true → a ≡ b
 code_eq-same gnil gnil h = refl
 code_eq-same (gnum m) (gnum n) h = ap gnum ((Decides-eqb m n).0 h)
 code_eq-same (gcons a b) (gcons c d) h =
-    let p = both_true (code_eq a c) (code_eq b d) h in
+    let p = and_parts (code_eq a c) (code_eq b d) h in
     ap (λ x. gcons x b) (code_eq-same a c p.0) ∙ ap (gcons c) (code_eq-same b d p.1)
 code_eq-same gnil (gnum n) h = absurd (false≢true h)
 code_eq-same gnil (gcons c d) h = absurd (false≢true h)

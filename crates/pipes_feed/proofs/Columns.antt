@@ -12,7 +12,8 @@ use Rattle.pipes_feed.specs.declared.reason.RowWhy.TheVariants as why
 use Rattle.pipes_feed.specs.declared.judge.Fault.{Fault}
 use Rattle.pipes_feed.specs.declared.judge.Fault.TheVariants as fault
 use Rattle.pipes_feed.specs.AnswersJudged.{AnswersJudged}
-use Rattle.pipes_feed.specs.Judged.{◌>>=◌, field_value, field_values}
+use Rattle.pipes_time.specs.Results.{◌>>=◌}
+use Rattle.pipes_feed.specs.Judged.{field_value, field_values}
 
 -- what is known of the values of all columns, with those before this one read
 abbrev pub SoFar : List Value → ℕ → List Kind → List (List ℕ) → Result (List Value) RowWhy → Type 0

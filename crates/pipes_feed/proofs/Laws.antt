@@ -28,7 +28,8 @@ use Rattle.pipes_feed.specs.Ahead.{ItemFits, PassesLine, ArrivalFollows}
 use Rattle.pipes_feed.specs.Reached.{Reached, stamp_floor, most_bytes, most_items, after_line}
 use Rattle.pipes_feed.specs.Reached.{after_item}
 use Rattle.pipes_feed.specs.Items.{stamp_in}
-use Rattle.pipes_feed.specs.Judged.{◌>>=◌, columns_of, stamp_of, at_floor, field_value}
+use Rattle.pipes_time.specs.Results.{◌>>=◌}
+use Rattle.pipes_feed.specs.Judged.{columns_of, stamp_of, at_floor, field_value}
 use Rattle.pipes_feed.specs.Judged.{field_values}
 use Rattle.pipes_feed.specs.Judged.{item_with, item_of, verdict_of, judge_header, judge_later}
 use Rattle.pipes_feed.specs.Judged.{judge_content, judge}

@@ -3,6 +3,7 @@ use Rattle.std.specs.Prelude.{ℕ, ◌+◌, List, [], ◌∷◌, length, nat_lt,
 use Rattle.std.specs.Prelude.{Result, Ok, Err}
 use Rattle.std.specs.Str.Lines.{strip_carriage_return}
 use Rattle.std.specs.Str.Parse.{digits_value}
+use Rattle.pipes_time.specs.Results.{◌>>=◌}
 use Rattle.pipes_time.specs.Interval.{horizon}
 use Rattle.pipes_tuple.specs.declared.value.Kind.{Kind}
 use Rattle.pipes_tuple.specs.declared.value.Value.{Value}
@@ -17,12 +18,6 @@ use Rattle.pipes_feed.specs.declared.reason.RowWhy.TheVariants as why
 use Rattle.pipes_feed.specs.declared.line.Verdict.{Verdict}
 use Rattle.pipes_feed.specs.declared.line.Verdict.TheVariants.{Pass, Give, Refuse, Limit}
 use Rattle.pipes_feed.specs.Reached.{Reached, stamp_floor, most_bytes, most_items}
-
-infixl 10 ◌>>=◌
--- the first refusal, or what is made of the value
-abbrev pub ◌>>=◌ : {A B : Type 0} → Result A RowWhy → (A → Result B RowWhy) → Result B RowWhy
-(Ok value) >>= next = next value
-(Err refusal) >>= next = Err refusal
 
 -- how many fields stand beside the stamp: none, or one for each column
 abbrev pub columns_of : List Kind → ℕ → Result ℕ RowWhy

@@ -16,8 +16,7 @@ abbrev pub source_start : Reached
 source_start = record { lines = 0; bytes = 0; items = 0; newest = 0; beat = 0 }
 
 -- The least stamp that an arrival may have: rows may come late by up to the slack, and nothing
--- comes
--- below a heartbeat.
+-- comes below a heartbeat.
 abbrev pub stamp_floor : ℕ → Reached → ℕ
 stamp_floor slack reached = max (reached.newest - slack) reached.beat
 

@@ -5,8 +5,7 @@ use Rattle.pipes_feed.specs.declared.reason.Reason.{Reason}
 use Rattle.pipes_feed.specs.Reached.{Reached, source_start}
 
 -- the kinds of the columns and the slack, how far the source has been read, the bytes of a read
--- that
--- no line has taken yet, and how the arrivals ended
+-- that no line has taken yet, and how the arrivals ended
 pub record ReaderState : Type 0 where
   pub kinds : List Kind
   pub slack : ℕ

@@ -5,6 +5,7 @@ use Rattle.std.specs.Option.{option_map}
 use Rattle.std.specs.List.{All, cons_option}
 use Rattle.std.proofs.lemmas.List.Elements.{All-nil, All-cons, All-head, All-tail, All-append}
 use Rattle.std.proofs.lemmas.List.Elements.{filter_map-append}
+use Rattle.pipes_stream.proofs.Following.{arrived-fits}
 use Rattle.pipes_time.specs.Interval.{closed}
 use Rattle.pipes_tuple.specs.declared.value.Kind.{Kind}
 use Rattle.pipes_tuple.specs.Kinds.{Fits}
@@ -64,13 +65,6 @@ sent-elements answer (message.Elem e) = one-elem e (answer e.tuple)
 sent-elements answer (message.Beat at) = refl
 sent-elements answer message.End = refl
 
-taken-fits : (m : Message) (kinds : List Kind) → MessageFits m kinds
-    → All (λ e. Fits e.tuple kinds) (elements (m ∷ []))
-taken-fits (message.Elem e) kinds f = All-cons (λ (e : Elem). Fits e.tuple kinds) e [] f
-    (All-nil (λ (e : Elem). Fits e.tuple kinds))
-taken-fits (message.Beat at) kinds f = All-nil (λ (e : Elem). Fits e.tuple kinds)
-taken-fits message.End kinds f = All-nil (λ (e : Elem). Fits e.tuple kinds)
-
 -- one more message
 pub each-push : (answer : Row → Option Row) (kinds : List Kind) (failed : Bool) (watch : Progress)
     (now : Bool) (moved : Progress) (taken : Lists) (sent : List Message) (m : Message)
@@ -90,7 +84,7 @@ each-push answer kinds failed watch now moved taken sent m s w fits going moves 
       taken_valid = valid-push start_of_list (taken 0) m s.taken_valid w;
       taken_fits = subst (λ (es : List Elem). All (λ e. Fits e.tuple kinds) es)
           (sym (elements-append (taken 0) (m ∷ []))) (All-append (λ (e : Elem). Fits e.tuple kinds)
-          (elements (taken 0)) (elements (m ∷ [])) s.taken_fits (taken-fits m kinds fits));
+          (elements (taken 0)) (elements (m ∷ [])) s.taken_fits (arrived-fits m kinds fits));
       watch_is = moves can ∙ ap (λ (p : Progress). after p m) s.watch_is
           ∙ sym (run-push start_of_list (taken 0) m);
       sent_valid = valid-push start_of_list sent (sent_for answer m) s.sent_valid

@@ -1,11 +1,13 @@
 -- A union goes on to stand for longer lists, and is lawful.
-use Rattle.std.proofs.Common.{◌≡◌, ℕ, suc, ◌≤◌, ◌<◌, ◌+◌, min, Bool, true, false, cond, ◌&&◌}
-use Rattle.std.proofs.Common.{nat_lt, List, [], ◌∷◌, ◌++◌, map, length, refl, sym, ◌∙◌, subst, ap}
-use Rattle.std.proofs.Common.{arith, append_assoc, append-nil}
+use Rattle.std.proofs.Common.{◌≡◌, ℕ, ◌≤◌, ◌<◌, ◌+◌, min, Bool, true, false, ◌&&◌, nat_lt, List}
+use Rattle.std.proofs.Common.{[], ◌∷◌, ◌++◌, length, refl, sym, ◌∙◌, subst, ap, arith}
+use Rattle.std.proofs.Common.{append_assoc, append-nil}
 use Rattle.std.specs.List.{All}
-use Rattle.std.proofs.lemmas.Bool.{ltb-false}
-use Rattle.std.proofs.lemmas.List.Elements.{All-nil, All-cons, All-head, All-tail, All-append}
+use Rattle.std.proofs.lemmas.List.Elements.{All-nil, All-cons, All-append}
 use Rattle.std.proofs.lemmas.List.Elements.{All-weaker}
+use Rattle.std.proofs.Math.Bool.{and_comm}
+use Rattle.std.proofs.lemmas.Bool.{and_parts, and_left}
+use Rattle.std.proofs.Math.Nat.{min_comm}
 use Rattle.pipes_time.specs.Interval.{closed, IsInterval}
 use Rattle.pipes_tuple.specs.declared.value.Value.{Value}
 use Rattle.pipes_tuple.specs.declared.value.Kind.{Kind}
@@ -18,135 +20,29 @@ use Rattle.pipes_stream.specs.declared.message.Message.{Message}
 use Rattle.pipes_stream.specs.declared.message.Message.TheVariants as message
 use Rattle.pipes_stream.specs.Progress.{Progress}
 use Rattle.pipes_stream.specs.Snapshot.{snapshot}
-use Rattle.pipes_stream.specs.Lists.{CanFollow, after, run, start_of_list, ValidFrom, Valid, beat}
+use Rattle.pipes_stream.specs.Lists.{CanFollow, after, run, start_of_list, Valid, beat}
 use Rattle.pipes_stream.specs.Lists.{HasEnded, elements}
 use Rattle.pipes_stream.specs.Lawful.{Lists, Lawful, Takes, MessageFits, no_messages, least}
 use Rattle.pipes_stream.specs.Lawful.{all_elements, IsCovered, open_count}
+use Rattle.pipes_stream.proofs.Following.{arrived, arrived-fits, not_ended, intervals}
 use Rattle.pipes_stream.proofs.Messages.{run-append, run-push, run-rises, valid-append, valid-push}
-use Rattle.pipes_stream.proofs.Messages.{elements-append, elements-map, beat-closed, beat-ended}
+use Rattle.pipes_stream.proofs.Messages.{elements-append, beat-closed, beat-ended}
 use Rattle.pipes_stream.proofs.Snapshots.{snapshot-append, snapshot-Perm, snapshot-above}
 use Rattle.pipes_stream.proofs.Ports.{floor-below, covered-itself, All-Perm, All-parts}
 use Rattle.pipes_stream.proofs.Ports.{open_count-all, open_count-append}
 use Rattle.pipes_sweep.specs.Waiting.{StartsRise, due, later}
-use Rattle.pipes_sweep.proofs.Places.{placed-Perm, due-later, due-below, later-above}
+use Rattle.pipes_sweep.specs.Sending.{sent_at}
+use Rattle.pipes_sweep.proofs.Places.{placed-Perm, due-later, later-above}
+use Rattle.pipes_sweep.proofs.SentAt.{SentAt, sent_due}
 use Rattle.pipes_flat.specs.declared.union.Union.{Union}
 use Rattle.pipes_flat.specs.Tasks.{union_task}
-use Rattle.pipes_flat.specs.Unions.{StandsForBoth, UnionStands, with_elem, beat_sent_after, Sends}
-
--- the elements of a valid list are valid in intervals
-pub intervals : (p : Progress) (ms : List Message) → ValidFrom p ms
-    → All (λ e. IsInterval e.span.start e.span.end) (elements ms)
-intervals p [] v = All-nil (λ (e : Elem). IsInterval e.span.start e.span.end)
-intervals p (message.Elem e ∷ ms) v = All-cons (λ (e : Elem). IsInterval e.span.start e.span.end) e
-    (elements ms) v.0.2 (intervals (after p (message.Elem e)) ms v.1)
-intervals p (message.Beat at ∷ ms) v = intervals (after p (message.Beat at)) ms v.1
-intervals p (message.End ∷ ms) v = intervals (after p message.End) ms v.1
-
-rise-head : (e : Elem) (es : List Elem) → StartsRise (e ∷ es)
-    → All (λ d. e.span.start ≤ d.span.start) es
-rise-head e es h = λ k d l. h 0 (suc k) d (omega arith) (omega arith)
-
-rise-tail : (e : Elem) (es : List Elem) → StartsRise (e ∷ es) → StartsRise es
-rise-tail e es h = λ i j d le l. h (suc i) (suc j) d (omega arith) (omega arith)
-
--- elements that may follow, up to an instant
-record Reaches (p : Progress) (now : ℕ) (ms : List Message) : Type 0 where
-  pub valid : ValidFrom p ms
-  pub ended : (run p ms).ended ≡ false
-  pub low : p.beat ≤ (run p ms).beat
-  pub high : (run p ms).beat ≤ now
-
-reach-due : (p : Progress) (now : ℕ) (es : List Elem) → p.ended ≡ false → p.beat ≤ now
-    → StartsRise es → All (λ e. p.beat ≤ e.span.start) es → All (λ e. e.span.start ≤ now) es
-    → All (λ e. IsInterval e.span.start e.span.end) es → Reaches p now (map message.Elem es)
-reach-due p now [] going below rise low high inside = record {
-  valid = tt;
-  ended = going;
-  low =
-      omega arith;
-  high = below;
-}
-reach-due p now (e ∷ es) going below rise low high inside =
-    let start : p.beat ≤ e.span.start = All-head (λ (d : Elem). p.beat ≤ d.span.start) e es low in
-    let here : e.span.start ≤ now = All-head (λ (d : Elem). d.span.start ≤ now) e es high in
-    let rest = reach-due (after p (message.Elem e)) now es going here (rise-tail e es rise)
-    (rise-head e es rise) (All-tail (λ (d : Elem). d.span.start ≤ now) e es high)
-    (All-tail (λ (d : Elem). IsInterval d.span.start d.span.end) e es inside) in
-    let a = rest.low in
-    record {
-      valid = (
-        (
-          going,
-          start,
-          All-head (λ (d : Elem). IsInterval d.span.start d.span.end) e es
-              inside,
-        ),
-        rest.valid,
-      );
-      ended = rest.ended;
-      low = omega (arith, start, a);
-      high = rest.high;
-    }
-
--- what is known after them
-record Tells (q : Progress) (now : ℕ) (ended : Bool) (ms : List Message) : Type 0 where
-  pub valid : ValidFrom q ms
-  pub beat_is : (run q ms).beat ≡ now
-  pub ended_is : (run q ms).ended ≡ ended
-  pub nothing : elements ms ≡ []
-
-tells-beat : (b : Bool) (q : Progress) (beat_sent now : ℕ) → nat_lt beat_sent now ≡ b
-    → q.ended ≡ false
-    → beat_sent ≤ q.beat → q.beat ≤ now → now ≤ closed → Tells q now false
-    (cond b (message.Beat now ∷ []) [])
-tells-beat true q beat_sent now is going low high most = record {
-  valid = ((going, high, most), tt);
-  beat_is = refl;
-  ended_is = going;
-  nothing = refl;
-}
-tells-beat false q beat_sent now is going low high most =
-    let a : now ≤ beat_sent = ltb-false beat_sent now is in
-    record { valid = tt; beat_is = omega (arith, a, low, high); ended_is = going; nothing = refl }
-
-tells : (ended : Bool) (q : Progress) (beat_sent now : ℕ) → (ended ≡ true → now ≡ closed)
-    → q.ended ≡ false → beat_sent ≤ q.beat → q.beat ≤ now → now ≤ closed
-    → Tells q now ended (beat_sent_after beat_sent now ended)
-tells true q beat_sent now at going low high most = record {
-  valid = (going, tt);
-  beat_is =
-      sym (at refl);
-  ended_is = refl;
-  nothing = refl;
-}
-tells false q beat_sent now at going low high most = tells-beat (nat_lt beat_sent now) q beat_sent
-    now refl going
-    low high most
+use Rattle.pipes_flat.specs.Unions.{StandsForBoth, UnionStands, with_elem, Sends}
 
 -- the message's element is among those that wait
 with-Perm : (m : Message) (hold : List Elem) → Perm (with_elem m hold) (elements (m ∷ []) ++ hold)
 with-Perm (message.Elem e) hold = placed-Perm e hold
 with-Perm (message.Beat at) hold = Perm-refl hold
 with-Perm message.End hold = Perm-refl hold
-
-arrived : (p : Progress) (m : Message) → CanFollow p m → All (λ e. p.beat ≤ e.span.start)
-    (elements (m ∷ []))
-arrived p (message.Elem e) w = All-cons (λ (e : Elem). p.beat ≤ e.span.start) e [] w.1
-    (All-nil (λ (e : Elem). p.beat ≤ e.span.start))
-arrived p (message.Beat at) w = All-nil (λ (e : Elem). p.beat ≤ e.span.start)
-arrived p message.End w = All-nil (λ (e : Elem). p.beat ≤ e.span.start)
-
-arrived-fits : (m : Message) (kinds : List Kind) → MessageFits m kinds
-    → All (λ e. Fits e.tuple kinds) (elements (m ∷ []))
-arrived-fits (message.Elem e) kinds f = All-cons (λ (e : Elem). Fits e.tuple kinds) e [] f
-    (All-nil (λ (e : Elem). Fits e.tuple kinds))
-arrived-fits (message.Beat at) kinds f = All-nil (λ (e : Elem). Fits e.tuple kinds)
-arrived-fits message.End kinds f = All-nil (λ (e : Elem). Fits e.tuple kinds)
-
-not_ended : (p : Progress) (m : Message) → CanFollow p m → p.ended ≡ false
-not_ended p (message.Elem e) w = w.0
-not_ended p (message.Beat at) w = w.0
-not_ended p message.End w = w
 
 -- what was sent, what goes now and what stays
 moved : (sent hold gone stays more lefts rights : List Elem) → Perm (sent ++ hold) (lefts ++ rights)
@@ -162,13 +58,6 @@ moved sent hold gone stays more lefts rights p q =
     (then (Perm-equal (sym (append_assoc more lefts rights)))
     (Perm-right rights (Perm-append_comm more lefts))))))))
 
--- the two sides change places
-and-comm : (a b : Bool) → (a && b) ≡ (b && a)
-and-comm true true = refl
-and-comm true false = refl
-and-comm false true = refl
-and-comm false false = refl
-
 turn : (kinds : List Kind) (hold : List Elem) (left right : Progress)
     (lefts rights sent : List Message) → StandsForBoth kinds hold left right lefts rights sent
     → StandsForBoth kinds hold right left rights lefts sent
@@ -182,33 +71,24 @@ turn kinds hold left right lefts rights sent s =
       right_is = s.left_is;
       sent_valid = s.sent_valid;
       sent_beat = let a : beat sent ≡ min left.beat right.beat = s.sent_beat in omega arith;
-      sent_ended = s.sent_ended ∙ and-comm left.ended right.ended;
+      sent_ended = s.sent_ended ∙ and_comm left.ended right.ended;
       waits = s.waits;
       all = then s.all (Perm-append_comm (elements lefts) (elements rights));
     }
 
-both-false : (a b : Bool) → a ≡ false → (a && b) ≡ false
-both-false a b h = rw h refl
-
-both-true : (a b : Bool) → (a && b) ≡ true → (a ≡ true) × (b ≡ true)
-both-true true true h = (refl, refl)
-both-true true false h = cc
-both-true false b h = cc
-
 -- one more message on the left
 step : (kinds : List Kind) (hold held : List Elem) (left right moves : Progress)
-    (lefts rights sent : List Message) (m : Message) (beat_sent now : ℕ) (ended : Bool)
+    (lefts rights sent : List Message) (m : Message) (known now : ℕ) (ended : Bool)
     → StandsForBoth kinds hold left right lefts rights sent → CanFollow (run start_of_list lefts) m
     → MessageFits m kinds → moves ≡ after left m → held ≡ with_elem m hold
-    → beat_sent ≡ min left.beat right.beat → now ≡ min moves.beat right.beat
+    → known ≡ min left.beat right.beat → now ≡ min moves.beat right.beat
     → ended ≡ (moves.ended && right.ended) → StartsRise (due now held)
     → StandsForBoth kinds (later now held) moves right (lefts ++ m ∷ []) rights
-    (sent ++ (map message.Elem (due now held) ++ beat_sent_after beat_sent now ended))
-step kinds hold held left right moves lefts rights sent m beat_sent now ended s w fits moves_is
-    held_is
-    beat_sent_is now_is ended_is rise =
+    (sent ++ sent_at known now ended held)
+step kinds hold held left right moves lefts rights sent m known now ended s w fits moves_is
+    held_is known_is now_is ended_is rise =
     let gone : List Elem = due now held in
-    let tail : List Message = beat_sent_after beat_sent now ended in
+    let more : List Message = sent_at known now ended held in
     let comes : Perm held (elements (m ∷ []) ++ hold) = subst
     (λ (es : List Elem). Perm es (elements (m ∷ []) ++ hold)) (sym held_is)
     (with-Perm m hold) in
@@ -227,7 +107,7 @@ step kinds hold held left right moves lefts rights sent m beat_sent now ended s 
     let rose : (left.beat ≤ (run left (m ∷ [])).beat) × ((run left (m ∷ [])).beat ≤ closed) =
     run-rises left (m ∷ []) (follows, tt) (omega arith) in
     let rose_is : moves.beat ≡ (run left (m ∷ [])).beat = ap (λ (q : Progress). q.beat) moves_is in
-    let going : p.ended ≡ false = s.sent_ended ∙ both-false left.ended right.ended
+    let going : p.ended ≡ false = s.sent_ended ∙ and_left left.ended right.ended
     (not_ended left m follows) in
     let low : All (λ e. p.beat ≤ e.span.start) held =
     All-Perm (λ (e : Elem). p.beat ≤ e.span.start) (Perm-sym comes)
@@ -248,35 +128,22 @@ step kinds hold held left right moves lefts rights sent m beat_sent now ended s 
     (All-append (λ (e : Elem). IsInterval e.span.start e.span.end) (elements (m ∷ [])) hold
     (intervals left (m ∷ []) (follows, tt)) kept) in
     let split : Perm (gone ++ later now held) held = due-later now held in
-    let reach : Reaches p now (map message.Elem gone) =
-    reach-due p now gone going (omega (arith, old_beat, rose.0)) rise
-    (All-parts (λ (e : Elem). p.beat ≤ e.span.start) gone (later now held)
-    (All-Perm (λ (e : Elem). p.beat ≤ e.span.start) (Perm-sym split) low)).0
-    (due-below now held)
-    (All-parts (λ (e : Elem). IsInterval e.span.start e.span.end) gone (later now held)
-    (All-Perm (λ (e : Elem). IsInterval e.span.start e.span.end) (Perm-sym split) inside)).0 in
-    let q : Progress = run p (map message.Elem gone) in
-    let q_low : p.beat ≤ q.beat = reach.low in
-    let tells_it : Tells q now ended tail =
-    tells ended q beat_sent now
+    let out : SentAt p now ended gone more =
+    sent_due p known now ended held going (omega (arith, known_is, old_beat))
+    (omega (arith, old_beat, rose.0, rose_is, now_is)) (omega arith)
     (λ h.
-    let both = both-true moves.ended right.ended (sym ended_is ∙ h) in
+    let both = and_parts moves.ended right.ended (sym ended_is ∙ h) in
     let a : beat (lefts ++ m ∷ []) ≡ closed = beat-ended (lefts ++ m ∷ []) left_valid
     (sym (ap (λ (x : Progress). x.ended) left_is) ∙ both.0) in
     let b : beat rights ≡ closed = beat-ended rights s.right_valid
     (sym (ap (λ (x : Progress). x.ended) s.right_is) ∙ both.1) in
     omega arith)
-    reach.ended (omega (arith, old_beat, q_low)) reach.high (omega arith) in
-    let ran : run start_of_list (sent ++ (map message.Elem gone ++ tail)) ≡ run q tail =
-    run-append start_of_list sent (map message.Elem gone ++ tail)
-    ∙ run-append p (map message.Elem gone) tail in
-    let now_beat : beat (sent ++ (map message.Elem gone ++ tail)) ≡ now =
-    ap (λ (x : Progress). x.beat) ran ∙ tells_it.beat_is in
-    let now_elements : elements (sent ++ (map message.Elem gone ++ tail)) ≡ elements sent ++ gone =
-    elements-append sent (map message.Elem gone ++ tail)
-    ∙ ap (λ (es : List Elem). elements sent ++ es) (elements-append (map message.Elem gone) tail
-    ∙ ap (λ (es : List Elem). elements (map message.Elem gone) ++ es) tells_it.nothing
-    ∙ append-nil (elements (map message.Elem gone)) ∙ elements-map gone) in
+    rise low inside in
+    let ran : run start_of_list (sent ++ more) ≡ run p more = run-append start_of_list sent more in
+    let now_beat : beat (sent ++ more) ≡ now = ap (λ (x : Progress). x.beat) ran ∙ out.beat_is in
+    let now_elements : elements (sent ++ more) ≡ elements sent ++ gone =
+    elements-append sent more
+    ∙ ap (λ (es : List Elem). elements sent ++ es) out.elements_are in
     record {
       left_valid = left_valid;
       right_valid = s.right_valid;
@@ -286,12 +153,11 @@ step kinds hold held left right moves lefts rights sent m beat_sent now ended s 
       right_fits = s.right_fits;
       left_is = left_is;
       right_is = s.right_is;
-      sent_valid = valid-append start_of_list sent (map message.Elem gone ++ tail) s.sent_valid
-          (valid-append p (map message.Elem gone) tail reach.valid tells_it.valid);
+      sent_valid = valid-append start_of_list sent more s.sent_valid out.valid;
       sent_beat = now_beat ∙ now_is;
-      sent_ended = ap (λ (x : Progress). x.ended) ran ∙ tells_it.ended_is ∙ ended_is;
-      waits = All-weaker (λ (e : Elem). now < e.span.start) (λ (e : Elem). beat
-          (sent ++ (map message.Elem gone ++ tail)) < e.span.start)
+      sent_ended = ap (λ (x : Progress). x.ended) ran ∙ out.ended_is ∙ ended_is;
+      waits = All-weaker (λ (e : Elem). now < e.span.start)
+          (λ (e : Elem). beat (sent ++ more) < e.span.start)
           (λ e h. omega (arith, now_beat, h)) (later now held) (later-above now held);
       all =
           subst (λ (es : List Elem). Perm (es ++ later now held) (elements (lefts ++ m ∷ [])
@@ -311,25 +177,26 @@ carry kinds kinds' hold hold' left left' right right' lefts rights sent a b c d 
     rw (a, b, c, d) s
 
 -- the steps of the code, on either port
-pub takes_left : (old mid new : Union) (m : Message) (beat_sent : ℕ) (before now : List Message)
-    → beat_sent ≡ min old.left.beat old.right.beat → mid.schema ≡ old.schema
+pub union_takes_left : (old mid new : Union) (m : Message) (known : ℕ)
+    (before now : List Message)
+    → known ≡ min old.left.beat old.right.beat → mid.schema ≡ old.schema
     → mid.failed ≡ old.failed
     → (CanFollow old.left m → mid.left ≡ after old.left m) → mid.right ≡ old.right
-    → mid.hold ≡ with_elem m old.hold → Sends mid new beat_sent before now
+    → mid.hold ≡ with_elem m old.hold → Sends mid new known before now
     → Takes (union_task old.schema) (UnionStands old) (UnionStands new) 0 m before now
-takes_left old mid new m beat_sent before now beat_sent_is schema failed left right hold sends =
+union_takes_left old mid new m known before now known_is schema failed left right hold
+    sends =
     record {
-      sent = map message.Elem (due (min mid.left.beat mid.right.beat) mid.hold)
-          ++ beat_sent_after beat_sent (min mid.left.beat mid.right.beat)
-          (mid.left.ended && mid.right.ended);
+      sent = sent_at known (min mid.left.beat mid.right.beat) (mid.left.ended && mid.right.ended)
+          mid.hold;
       appended = sends.appended;
       stands = λ taken earlier s can.
           let follows : CanFollow old.left m = subst (λ (p : Progress). CanFollow p m)
           (sym s.both.left_is) can.follows in
           let both =
           step old.schema old.hold mid.hold old.left old.right mid.left (taken 0) (taken 1) earlier
-          m beat_sent (min mid.left.beat mid.right.beat) (mid.left.ended && mid.right.ended)
-          s.both can.follows can.fits (left follows) hold beat_sent_is
+          m known (min mid.left.beat mid.right.beat) (mid.left.ended && mid.right.ended)
+          s.both can.follows can.fits (left follows) hold known_is
           (ap (λ (p : Progress). min mid.left.beat p.beat) right)
           (ap (λ (p : Progress). mid.left.ended && p.ended) right) sends.rises in
           record {
@@ -340,20 +207,18 @@ takes_left old mid new m beat_sent before now beat_sent_is schema failed left ri
           };
     }
 
-min-turn : (a b : ℕ) → min a b ≡ min b a
-min-turn a b = omega arith
-
-pub takes_right : (old mid new : Union) (m : Message) (beat_sent : ℕ) (before now : List Message)
-    → beat_sent ≡ min old.left.beat old.right.beat → mid.schema ≡ old.schema
+pub union_takes_right : (old mid new : Union) (m : Message) (known : ℕ)
+    (before now : List Message)
+    → known ≡ min old.left.beat old.right.beat → mid.schema ≡ old.schema
     → mid.failed ≡ old.failed
     → (CanFollow old.right m → mid.right ≡ after old.right m) → mid.left ≡ old.left
-    → mid.hold ≡ with_elem m old.hold → Sends mid new beat_sent before now
+    → mid.hold ≡ with_elem m old.hold → Sends mid new known before now
     → Takes (union_task old.schema) (UnionStands old) (UnionStands new) 1 m before now
-takes_right old mid new m beat_sent before now beat_sent_is schema failed right left hold sends =
+union_takes_right old mid new m known before now known_is schema failed right left hold
+    sends =
     record {
-      sent = map message.Elem (due (min mid.left.beat mid.right.beat) mid.hold)
-          ++ beat_sent_after beat_sent (min mid.left.beat mid.right.beat)
-          (mid.left.ended && mid.right.ended);
+      sent = sent_at known (min mid.left.beat mid.right.beat) (mid.left.ended && mid.right.ended)
+          mid.hold;
       appended = sends.appended;
       stands = λ taken earlier s can.
           let follows : CanFollow old.right m = subst (λ (p : Progress). CanFollow p m)
@@ -362,13 +227,13 @@ takes_right old mid new m beat_sent before now beat_sent_is schema failed right 
           s.both in
           let both =
           step old.schema old.hold mid.hold old.right old.left mid.right (taken 1) (taken 0) earlier
-          m beat_sent (min mid.left.beat mid.right.beat) (mid.left.ended && mid.right.ended)
-          turned can.follows can.fits (right follows) hold (beat_sent_is
-          ∙ min-turn old.left.beat old.right.beat)
+          m known (min mid.left.beat mid.right.beat) (mid.left.ended && mid.right.ended)
+          turned can.follows can.fits (right follows) hold (known_is
+          ∙ min_comm old.left.beat old.right.beat)
           (ap (λ (p : Progress). min p.beat mid.right.beat) left
-          ∙ min-turn old.left.beat mid.right.beat)
+          ∙ min_comm old.left.beat mid.right.beat)
           (ap (λ (p : Progress). p.ended && mid.right.ended) left
-          ∙ and-comm old.left.ended mid.right.ended) sends.rises in
+          ∙ and_comm old.left.ended mid.right.ended) sends.rises in
           record {
             going = sends.failed ∙ failed ∙ s.going;
             both = carry old.schema new.schema (later (min mid.left.beat mid.right.beat) mid.hold)
@@ -491,25 +356,14 @@ union_new u going left right hold =
     }
 
 -- what the code does one after the other
-pub sends_from : (old new : Union) (beat_sent now : ℕ) (ended : Bool)
-    (before middle after_it : List Message) (empty ready : List Elem) → new.schema ≡ old.schema
-    → new.failed ≡ old.failed → new.left ≡ old.left → new.right ≡ old.right
-    → now ≡ min old.left.beat old.right.beat → ended ≡ (old.left.ended && old.right.ended)
-    → empty ≡ [] → StartsRise (due now old.hold) → ready ≡ empty ++ due now old.hold
-    → new.hold ≡ later now old.hold
-    → middle ≡ before ++ map message.Elem ready → after_it ≡ middle
-    ++ beat_sent_after beat_sent now ended
-    → Sends old new beat_sent before after_it
-sends_from old new beat_sent now ended before middle after_it empty ready schema failed left right
-    now_is
-    ended_is empty_is rise ready_is hold middle_is after_is =
-    let gone : List Elem = due now old.hold in
-    let all : after_it ≡ before ++ (map message.Elem gone ++ beat_sent_after beat_sent now ended) =
-    after_is
-    ∙ ap (λ (ms : List Message). ms ++ beat_sent_after beat_sent now ended)
-    (middle_is ∙ ap (λ (es : List Elem). before ++ map message.Elem es)
-    (ready_is ∙ ap (λ (es : List Elem). es ++ gone) empty_is))
-    ∙ append_assoc before (map message.Elem gone) (beat_sent_after beat_sent now ended) in
+pub union_sends_from : (old new : Union) (known now : ℕ) (ended : Bool)
+    (before after : List Message) → new.schema ≡ old.schema → new.failed ≡ old.failed
+    → new.left ≡ old.left → new.right ≡ old.right → now ≡ min old.left.beat old.right.beat
+    → ended ≡ (old.left.ended && old.right.ended) → StartsRise (due now old.hold)
+    → new.hold ≡ later now old.hold → after ≡ before ++ sent_at known now ended old.hold
+    → Sends old new known before after
+union_sends_from old new known now ended before after schema failed left right now_is ended_is rise
+    hold sent =
     record {
       schema = schema;
       failed = failed;
@@ -518,9 +372,7 @@ sends_from old new beat_sent now ended before middle after_it empty ready schema
       hold = subst (λ (t : ℕ). new.hold ≡ later t old.hold) now_is hold;
       rises = subst (λ (t : ℕ). StartsRise (due t old.hold)) now_is rise;
       appended =
-          subst (λ (t : ℕ). after_it ≡ before ++ (map message.Elem (due t old.hold)
-          ++ beat_sent_after beat_sent t (old.left.ended && old.right.ended))) now_is
-          (subst (λ (b : Bool). after_it ≡ before ++ (map message.Elem gone
-          ++ beat_sent_after beat_sent now b))
-          ended_is all);
+          subst (λ (t : ℕ). after ≡ before
+          ++ sent_at known t (old.left.ended && old.right.ended) old.hold) now_is
+          (subst (λ (b : Bool). after ≡ before ++ sent_at known now b old.hold) ended_is sent);
     }

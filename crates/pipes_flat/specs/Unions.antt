@@ -1,6 +1,5 @@
 -- What a union stands for, and what its steps do.
-use Rattle.std.specs.Prelude.{◌≡◌, ℕ, ◌<◌, min, Bool, false, ◌&&◌, nat_lt, if◌then◌else◌, List, []}
-use Rattle.std.specs.Prelude.{◌∷◌, ◌++◌, map}
+use Rattle.std.specs.Prelude.{◌≡◌, ℕ, ◌<◌, min, false, ◌&&◌, List, ◌++◌}
 use Rattle.std.specs.List.{All}
 use Rattle.pipes_tuple.specs.declared.value.Kind.{Kind}
 use Rattle.pipes_tuple.specs.Kinds.{Fits}
@@ -12,11 +11,11 @@ use Rattle.pipes_stream.specs.Progress.{Progress}
 use Rattle.pipes_stream.specs.Lists.{run, start_of_list, Valid, beat, elements}
 use Rattle.pipes_stream.specs.Lawful.{Lists}
 use Rattle.pipes_sweep.specs.Waiting.{StartsRise, due, later, placed}
+use Rattle.pipes_sweep.specs.Sending.{sent_at}
 use Rattle.pipes_flat.specs.declared.union.Union.{Union}
 
 -- The elements sent and those that wait are those taken at both ports, and none that waits has been
--- reached by the lower heartbeat, which is
--- how far the list sent has come.
+-- reached by the lower heartbeat, which is how far the list sent has come.
 pub record StandsForBoth (kinds : List Kind) (hold : List Elem) (left right : Progress)
     (lefts rights sent : List Message) : Type 0 where
   pub left_valid : Valid lefts
@@ -41,19 +40,13 @@ with_elem (message.Elem e) hold = placed e hold
 with_elem (message.Beat at) hold = hold
 with_elem message.End hold = hold
 
--- what is known after the elements that are due
-abbrev pub beat_sent_after : ℕ → ℕ → Bool → List Message
-beat_sent_after beat_sent now ended = if ended then message.End ∷ [] else
-    (if nat_lt beat_sent now then message.Beat now ∷ [] else [])
-
 -- what is due at the lower heartbeat goes, and how far that is
-pub record Sends (old new : Union) (beat_sent : ℕ) (before now : List Message) : Type 0 where
+pub record Sends (old new : Union) (known : ℕ) (before now : List Message) : Type 0 where
   pub schema : new.schema ≡ old.schema
   pub failed : new.failed ≡ old.failed
   pub left : new.left ≡ old.left
   pub right : new.right ≡ old.right
   pub hold : new.hold ≡ later (min old.left.beat old.right.beat) old.hold
   pub rises : StartsRise (due (min old.left.beat old.right.beat) old.hold)
-  pub appended : now ≡ before ++ (map message.Elem (due (min old.left.beat old.right.beat) old.hold)
-      ++ beat_sent_after beat_sent (min old.left.beat old.right.beat)
-      (old.left.ended && old.right.ended))
+  pub appended : now ≡ before ++ sent_at known (min old.left.beat old.right.beat)
+      (old.left.ended && old.right.ended) old.hold

@@ -1,15 +1,13 @@
 // An operator that sends the elements of two ports in the order of their starts.
-ghost use Rattle.std.specs.Prelude.{◌≡◌, ◌<◌, [], ◌∷◌, ◌++◌, ◌&&◌, List, IfOk, OnOk, OnErr, IsOk};
-ghost use Rattle.std.specs.Prelude.{map, min};
+ghost use Rattle.std.specs.Prelude.{◌≡◌, ◌<◌, [], ◌∷◌, ◌++◌, ◌&&◌, List, IfOk, OnOk, IsOk, min};
 ghost use Rattle.pipes_stream.specs.declared.message.Message.{Message as Sent};
-ghost use Rattle.pipes_stream.specs.declared.message.Message.TheVariants as message;
 ghost use Rattle.pipes_stream.specs.Lawful.{no_messages, Takes};
 ghost use Rattle.pipes_plan.specs.PlanKinds.{IsTyped};
 ghost use Rattle.pipes_flat.specs.Tasks.{union_task};
-ghost use Rattle.pipes_flat.specs.Unions.{Sends, UnionStands, beat_sent_after, with_elem};
+ghost use Rattle.pipes_flat.specs.Unions.{Sends, UnionStands, with_elem};
 
-use pipes_stream::{Elem, Message, Operator, Watch};
-use pipes_sweep::Hold;
+use pipes_stream::{Message, Operator, Watch};
+use pipes_sweep::{Hold, send_due};
 use pipes_time::Memory;
 use pipes_tuple::Schema;
 use std::alloc::Global;
@@ -24,35 +22,6 @@ pub struct Union {
     right: Watch,
     hold: Hold,
     failed: bool,
-}
-
-// Appends the elements.
-fn append_elems(elems: Vec<Elem>, out: &mut Vec<Message>) -> Result<(), Memory>
-    ensures appended { OnOk result (out.new.items ≡ out.old.items ++ map message.Elem elems.items) }
-    ensures grows { (more : List Sent) × (out.new.items ≡ out.old.items ++ more) }
-{
-    for elem in elems {
-        out.push(Message::Elem(elem))?;
-    }
-    Ok(())
-}
-
-// Tells how far the list has come, where the elements do not show it. Without memory nothing is
-// appended.
-fn tell(beat_sent: u64, now: u64, ended: bool, out: &mut Vec<Message>) -> Result<(), Memory>
-    ensures appended { OnOk result (out.new.items ≡ out.old.items
-        ++ beat_sent_after beat_sent now ended) }
-    ensures refused { OnErr result (out.new.items ≡ out.old.items) }
-{
-    if ended {
-        out.push(Message::End)?;
-        return Ok(());
-    }
-    if beat_sent < now {
-        out.push(Message::Beat(now))?;
-        return Ok(());
-    }
-    Ok(())
 }
 
 // Keeps the message's element, if it has one.
@@ -106,19 +75,15 @@ impl Union {
         self.right.is_ended()
     }
 
-    // Sends what is due, and how far that is; `known` was known before.
-    fn send(&mut self, beat_sent: u64, out: &mut Vec<Message>) -> Result<(), Memory>
-        ensures sends { OnOk result (Sends self.old self.new beat_sent out.old.items
-            out.new.items) }
+    // Sends what is due and how far that is; the heartbeat before was `known`.
+    fn send(&mut self, known: u64, out: &mut Vec<Message>) -> Result<(), Memory>
+        ensures sends { OnOk result (Sends self.old self.new known out.old.items out.new.items) }
         ensures same { self.new.schema ≡ self.old.schema }
         ensures grows { (more : List Sent) × (out.new.items ≡ out.old.items ++ more) }
     {
         let now = self.least();
         let ended = self.has_ended();
-        let mut ready = Vec::new(self.alloc);
-        self.hold.release(now, &mut ready)?;
-        append_elems(ready, out)?;
-        tell(beat_sent, now, ended, out)?;
+        send_due(self.alloc, &mut self.hold, known, now, ended, out)?;
         Ok(())
     }
 
@@ -129,10 +94,10 @@ impl Union {
         ensures same { self.new.schema ≡ self.old.schema }
         ensures grows { (more : List Sent) × (out.new.items ≡ out.old.items ++ more) }
     {
-        let beat_sent = self.least();
+        let known = self.least();
         self.left.step(&message);
         keep(&mut self.hold, message)?;
-        self.send(beat_sent, out)?;
+        self.send(known, out)?;
         Ok(())
     }
 
@@ -143,10 +108,10 @@ impl Union {
         ensures same { self.new.schema ≡ self.old.schema }
         ensures grows { (more : List Sent) × (out.new.items ≡ out.old.items ++ more) }
     {
-        let beat_sent = self.least();
+        let known = self.least();
         self.right.step(&message);
         keep(&mut self.hold, message)?;
-        self.send(beat_sent, out)?;
+        self.send(known, out)?;
         Ok(())
     }
 

@@ -5,8 +5,9 @@ use Rattle.pipes_token.specs.declared.refusal.Refusal.{Refusal}
 use Rattle.pipes_token.specs.declared.token.Token.{Token}
 use Rattle.pipes_reader.specs.declared.fault.ParseFault.{ParseFault}
 use Rattle.pipes_reader.specs.declared.fault.ParseFault.TheVariants.{Refused, Memory}
-use Rattle.pipes_reader.specs.Reading.{Reads, Fails, ◌>>=◌, too_many}
-use Rattle.pipes_grammar.specs.ListReading.{step_from, later, entries_within}
+use Rattle.pipes_time.specs.Results.{◌>>=◌}
+use Rattle.pipes_reader.specs.Reading.{Reads, Fails, too_many}
+use Rattle.pipes_grammar.specs.ListReading.{step_from, after_prefix, entries_within}
 
 -- what was read so far, and all that is to be read
 abbrev Read : Type 0 → Type 0
@@ -14,7 +15,8 @@ Read A = Result (List A × List Token) Refusal
 
 pub failed : {A : Type 0} (fault : ParseFault) (read : Reads A) (list : List A) (left : ℕ)
     (rest : List Token) (all : Read A) →
-    Fails fault (step_from read rest) → later list (entries_within read left rest) ≡ all → 0 < left
+    Fails fault (step_from read rest) → after_prefix list (entries_within read left rest) ≡ all
+    → 0 < left
     → Fails fault all
 unfolding entries_within
 failed fault read list zero rest all h is some = absurd (omega arith)
@@ -23,7 +25,8 @@ failed Memory read list (suc left) rest all h is some = tt
 
 pub last : {A : Type 0} (read : Reads A) (list longer : List A) (x : A) (left : ℕ)
     (rest after : List Token) (all : Read A) →
-    step_from read rest ≡ Ok ((x, false), after) → later list (entries_within read left rest) ≡ all
+    step_from read rest ≡ Ok ((x, false), after) → after_prefix list
+    (entries_within read left rest) ≡ all
     → longer ≡ list ++ (x ∷ []) → 0 < left
     → all ≡ Ok (longer, after)
 unfolding entries_within
@@ -31,26 +34,28 @@ last read list longer x zero rest after all h is e some = absurd (omega arith)
 last read list longer x (suc left) rest after all h is e some = sym is ∙ rw (h, e) refl
 
 after_twice : {A : Type 0} (list : List A) (x : A) (r : Read A)
-    → later list (later (x ∷ []) r) ≡ later (list ++ (x ∷ [])) r
+    → after_prefix list (after_prefix (x ∷ []) r) ≡ after_prefix (list ++ (x ∷ [])) r
 after_twice list x (Ok y) = simp append_assoc
 after_twice list x (Err r) = refl
 
 pub goes_on : {A : Type 0} (read : Reads A) (list longer : List A) (x : A) (left below : ℕ)
     (rest after : List Token) (all : Read A) →
-    step_from read rest ≡ Ok ((x, true), after) → later list (entries_within read left rest) ≡ all
+    step_from read rest ≡ Ok ((x, true), after) → after_prefix list
+    (entries_within read left rest) ≡ all
     → longer ≡ list ++ (x ∷ []) → left ≡ suc below
-    → later longer (entries_within read below after) ≡ all
+    → after_prefix longer (entries_within read below after) ≡ all
 unfolding entries_within
 goes_on read list longer x left below rest after all h is e f =
-    let step : later list (entries_within read (suc below) rest) ≡ later (list ++ (x ∷ []))
+    let step : after_prefix list (entries_within read (suc below) rest) ≡ after_prefix
+    (list ++ (x ∷ []))
     (entries_within read below after) =
     rw h (after_twice list x (entries_within read below after)) in
-    ap (λ (l : List _). later l (entries_within read below after)) e ∙ sym step
-    ∙ ap (λ (n : ℕ). later list (entries_within read n rest)) (sym f) ∙ is
+    ap (λ (l : List _). after_prefix l (entries_within read below after)) e ∙ sym step
+    ∙ ap (λ (n : ℕ). after_prefix list (entries_within read n rest)) (sym f) ∙ is
 
 pub none_left : {A : Type 0} (read : Reads A) (list : List A) (left : ℕ) (rest : List Token)
     (all : Read A) →
-    later list (entries_within read left rest) ≡ all → left ≡ 0 → all ≡ Err (too_many rest)
+    after_prefix list (entries_within read left rest) ≡ all → left ≡ 0 → all ≡ Err (too_many rest)
 unfolding entries_within
 none_left read list left rest all is e = sym is
-    ∙ ap (λ (n : ℕ). later list (entries_within read n rest)) e
+    ∙ ap (λ (n : ℕ). after_prefix list (entries_within read n rest)) e

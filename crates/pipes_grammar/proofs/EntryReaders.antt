@@ -13,12 +13,13 @@ use Rattle.pipes_relation.specs.declared.lists.Agg.{Agg}
 use Rattle.pipes_relation.specs.declared.lists.Agg.TheVariants as agg
 use Rattle.pipes_expr.specs.ExprSize.{expr_depth}
 use Rattle.pipes_grammar.specs.Grammar.{IsExpr, AreEntries, last, more, IsFilled, entries, IsList}
-use Rattle.pipes_grammar.specs.Grammar.{IsColumn, IsPair, IsAgg, count, sum, least, greatest}
+use Rattle.pipes_grammar.specs.Grammar.{IsColumnPlace, IsPair, IsAgg, count, sum, least, greatest}
 use Rattle.pipes_grammar.specs.Grammar.{average}
 use Rattle.pipes_grammar.specs.Grammar as grammar
 use Rattle.pipes_grammar.specs.Limits.{deepest, IsExprText, AreExprsText}
-use Rattle.pipes_reader.specs.Reading.{Reads, ◌>>=◌, kinds_of, refused_by}
-use Rattle.pipes_grammar.specs.Reading.{Prefix, wanted}
+use Rattle.pipes_time.specs.Results.{◌>>=◌}
+use Rattle.pipes_reader.specs.Reading.{Reads, kinds_of, refused_by}
+use Rattle.pipes_grammar.specs.Reading.{SentencePrefix, wanted}
 use Rattle.pipes_grammar.specs.ExprReading.{read_column, parse_expr}
 use Rattle.pipes_grammar.specs.ListReading.{is_equal, read_pair, agg_of, agg_start_of, agg_by}
 use Rattle.pipes_grammar.specs.ListReading.{read_agg, parse_exprs, parse_pairs, parse_columns}
@@ -80,18 +81,18 @@ reads_exprs Begun whole =
     (λ es ks is. text_exprs es ks is.spells is.depth is.entries) (λ es ks is. is.spells)
 
 pub exprs_found : (ts : List Token) (es : List Expr) (rest : List Token)
-    → parse_exprs ts ≡ Ok (es, rest) → Prefix AreExprsText es ts rest
+    → parse_exprs ts ≡ Ok (es, rest) → SentencePrefix AreExprsText es ts rest
 exprs_found ts es rest e = (reads_exprs (Unit {0}) None).found ts es rest e
 
-pub exprs_prefix : (es : List Expr) (ts rest : List Token) → Prefix AreExprsText es ts rest
+pub exprs_prefix : (es : List Expr) (ts rest : List Token) → SentencePrefix AreExprsText es ts rest
     → parse_exprs ts ≡ Ok (es, rest)
 exprs_prefix es ts rest (prefix, is, parts) =
     rw parts ((reads_exprs (Unit {0}) None).only es prefix rest is)
 
 -- ---- lists of columns
 
-starts_column : (i : ℕ) (ks : List TokenKind) → IsColumn i ks → Starts ks
-starts_column _ _ (grammar.IsColumn.column i lt) = record {
+starts_column : (i : ℕ) (ks : List TokenKind) → IsColumnPlace i ks → Starts ks
+starts_column _ _ (grammar.IsColumnPlace.column i lt) = record {
   head = Number i;
   tail = [];
   parts =
@@ -100,11 +101,12 @@ starts_column _ _ (grammar.IsColumn.column i lt) = record {
 }
 
 pub reads_columns : (Begun Exprs : Type 0) (whole : Option ℕ)
-    → IsReader Begun Exprs whole (IsList IsColumn) (ListWithin IsColumn) parse_columns
+    → IsReader Begun Exprs whole (IsList IsColumnPlace) (ListWithin IsColumnPlace) parse_columns
 unfolding parse_columns
-reads_columns Begun Exprs whole = reads_list Begun Exprs whole IsColumn IsColumn read_column
+reads_columns Begun Exprs whole = reads_list Begun Exprs whole IsColumnPlace IsColumnPlace
+    read_column
     (reads_column Begun Exprs None)
-    (0, Number 0 ∷ [], grammar.IsColumn.column 0 (omega arith)) starts_column
+    (0, Number 0 ∷ [], grammar.IsColumnPlace.column 0 (omega arith)) starts_column
 
 -- ---- lists of pairs
 
@@ -113,20 +115,20 @@ equal_alone (Sign Equal) e = refl
 equal_alone _ e = absurd cc
 
 abbrev PairIs : Pair → List TokenKind → Type 0
-PairIs = Then IsColumn (λ i. Then (ThisKind (Sign Equal)) (λ x. Then IsColumn
+PairIs = Then IsColumnPlace (λ i. Then (ThisKind (Sign Equal)) (λ x. Then IsColumnPlace
     (λ j. Nothing (record { left = i; right = j }))))
 
 pair_is : (p : Pair) (ks : List TokenKind) → PairIs p ks → IsPair p ks
-pair_is p _ (both _ _ _ _ (grammar.IsColumn.column i lt) (both x _ _ _ one
-    (both _ _ _ ms (grammar.IsColumn.column j below) end))) =
+pair_is p _ (both _ _ _ _ (grammar.IsColumnPlace.column i lt) (both x _ _ _ one
+    (both _ _ _ ms (grammar.IsColumnPlace.column j below) end))) =
     with_end (λ z l. IsPair z (Number i ∷ Sign Equal ∷ Number j ∷ l))
     (record { left = i; right = j }) p ms end (grammar.IsPair.pair i j lt below)
 
 spells_pair : (p : Pair) (ks : List TokenKind) → IsPair p ks → PairIs p ks
 spells_pair _ _ (grammar.IsPair.pair i j lt below) =
-    both i _ (Number i ∷ []) _ (grammar.IsColumn.column i lt)
+    both i _ (Number i ∷ []) _ (grammar.IsColumnPlace.column i lt)
     (both tt _ (Sign Equal ∷ []) _ one (both j _ (Number j ∷ []) []
-    (grammar.IsColumn.column j below) nothing))
+    (grammar.IsColumnPlace.column j below) nothing))
 
 reads_pair_at : (Begun Exprs : Type 0) (whole : Option ℕ) → IsReader Begun Exprs whole PairIs PairIs
     read_pair
@@ -170,7 +172,7 @@ reads_pairs Begun Exprs whole = reads_list Begun Exprs whole IsPair IsPair read_
 -- ---- lists of aggregates
 
 abbrev AggIs : (ℕ → Agg) → Agg → List TokenKind → Type 0
-AggIs make = Then IsColumn (λ i. Nothing (make i))
+AggIs make = Then IsColumnPlace (λ i. Nothing (make i))
 
 reads_agg_of : (Begun Exprs : Type 0) (whole : Option ℕ) (make : ℕ → Agg)
     → IsReader Begun Exprs whole (AggIs make) (AggIs make) (agg_of make)
@@ -183,7 +185,7 @@ agg_is : (k : AKeyword) (make : ℕ → Agg) → ((i : ℕ) → i < 32
     → IsAgg (make i) (Keyword k ∷ Number i ∷ [])) → (g : Agg) (ls : List TokenKind)
     → AggIs make g ls
     → IsAgg g (Keyword k ∷ ls)
-agg_is k make is g _ (both _ _ _ ms (grammar.IsColumn.column i lt) end) =
+agg_is k make is g _ (both _ _ _ ms (grammar.IsColumnPlace.column i lt) end) =
     with_end (λ z l. IsAgg z (Keyword k ∷ Number i ∷ l)) (make i) g ms end (is i lt)
 
 abbrev agg_kind_by : TokenKind → ℕ → Reads Agg
@@ -231,7 +233,7 @@ module _ (Begun Exprs : Type 0) (whole : Option ℕ) where
       (λ at us rest h. same at (us ++ rest) ∙ (reads_agg_of Begun Exprs whole make).only
       (make i) us rest
       (subst (λ (z : List TokenKind). AggIs make (make i) z) h
-      (both i (make i) (Number i ∷ []) [] (grammar.IsColumn.column i lt) nothing)))
+      (both i (make i) (Number i ∷ []) [] (grammar.IsColumnPlace.column i lt) nothing)))
       prefix rest e
 
   only_agg : (g : Agg) (ks : List TokenKind) → IsAgg g ks → (prefix rest : List Token)

@@ -18,14 +18,16 @@ use Rattle.pipes_expr.specs.declared.expr.Expr.TheVariants as expr
 use Rattle.pipes_expr.specs.ExprSize.{expr_depth}
 use Rattle.pipes_expr.specs.declared.op.Op.{Op}
 use Rattle.pipes_grammar.specs.Ops.{op_of}
-use Rattle.pipes_grammar.specs.Grammar.{IsColumn, IsExpr, column, number, negative, text, truth}
+use Rattle.pipes_grammar.specs.Grammar.{IsColumnPlace, IsExpr, column, number, negative, text}
+use Rattle.pipes_grammar.specs.Grammar.{truth}
 use Rattle.pipes_grammar.specs.Grammar.{falsehood, negated, pair}
 use Rattle.pipes_grammar.specs.Grammar as grammar
 use Rattle.pipes_grammar.specs.Limits.{IsExprText}
-use Rattle.pipes_reader.specs.Reading.{Reads, ◌>>=◌, kinds_of, done, refusal, refused_by, place_of}
+use Rattle.pipes_time.specs.Results.{◌>>=◌}
+use Rattle.pipes_reader.specs.Reading.{Reads, kinds_of, done, refusal, refused_by, place_of}
 use Rattle.pipes_reader.specs.Reading.{too_deep, run_out}
 use Rattle.pipes_reader.specs.Causes.{broken, other_number}
-use Rattle.pipes_grammar.specs.Reading.{Prefix, wanted}
+use Rattle.pipes_grammar.specs.Reading.{SentencePrefix, wanted}
 use Rattle.pipes_grammar.specs.ExprReading.{is_close, read_column, read_negative, read_op}
 use Rattle.pipes_grammar.specs.ExprReading.{pair_from, not_from, column_expr, negative_expr}
 use Rattle.pipes_grammar.specs.ExprReading.{expr_by, expr_layer, expr_within, parse_expr}
@@ -70,7 +72,7 @@ abbrev NotIs : (Expr → List TokenKind → Type 0) → Expr → List TokenKind 
 NotIs E = Then E (λ a. Nothing (expr.Not a))
 
 abbrev ColumnIs : Expr → List TokenKind → Type 0
-ColumnIs = Then IsColumn (λ i. Nothing (expr.Col i))
+ColumnIs = Then IsColumnPlace (λ i. Nothing (expr.Col i))
 
 abbrev NegativeIs : Expr → List TokenKind → Type 0
 NegativeIs = Then IsNegative (λ n. Nothing (expr.Literal (value.Int n)))
@@ -113,69 +115,81 @@ reads_negative_expr Begun Exprs whole =
     (reads_negative Begun Exprs whole) (λ n. reads_nothing Begun Exprs whole
     (expr.Literal (value.Int n)))
 
--- ---- and the expression that it makes with that token
+-- ---- and the expression that it makes with that token, whatever relation its sides are in
+
+module _ (Side Made : Expr → List TokenKind → Type 0) where
+  pair_made : ((k : TokenKind) (o : Op) (a b : Expr) (ks ls : List TokenKind) → op_of k ≡ Some o
+      → Side a ks → Side b ls
+      → Made (expr.Binary o a b) (Sign Open ∷ (ks ++ (k ∷ (ls ++ (Sign Close ∷ []))))))
+      → (e : Expr) (ls : List TokenKind) → PairIs Side e ls → Made e (Sign Open ∷ ls)
+  pair_made make e _ (both a _ ks _ is-a (both o _ _ _ (leaves.op k _ is-o)
+      (both b _ ls _ is-b (both c _ _ ms one end)))) =
+      with_end (λ z l. Made z (Sign Open ∷ (ks ++ (k ∷ (ls ++ (Sign Close ∷ l))))))
+      (expr.Binary o a b) e ms end (make k o a b ks ls is-o is-a is-b)
+
+  not_made : ((a : Expr) (ks : List TokenKind) → Side a ks → Made (expr.Not a)
+      (Keyword keyword.Not ∷ ks))
+      → (e : Expr) (ls : List TokenKind) → NotIs Side e ls → Made e (Keyword keyword.Not ∷ ls)
+  not_made make e _ (both a _ ks ms is end) =
+      with_end (λ z l. Made z (Keyword keyword.Not ∷ (ks ++ l))) (expr.Not a) e ms end
+      (make a (ks ++ []) (subst (λ (z : List TokenKind). Side a z) (sym (append-nil ks)) is))
+
+module _ (Made : Expr → List TokenKind → Type 0) where
+  column_made : ((i : ℕ) → i < 32 → Made (expr.Col i) (Sign Dollar ∷ Number i ∷ []))
+      → (e : Expr) (ls : List TokenKind) → ColumnIs e ls → Made e (Sign Dollar ∷ ls)
+  column_made make e _ (both _ _ _ ms (grammar.column i lt) end) =
+      with_end (λ z l. Made z (Sign Dollar ∷ Number i ∷ l)) (expr.Col i) e ms end (make i lt)
+
+  negative_made : ((i : ℕ) → i ≤ 9223372036854775808
+      → Made (expr.Literal (value.Int (pos 0 -ℤ pos i))) (Sign Minus ∷ Number i ∷ []))
+      → (e : Expr) (ls : List TokenKind) → NegativeIs e ls → Made e (Sign Minus ∷ ls)
+  negative_made make e _ (both _ _ _ ms (leaves.number i le) end) =
+      with_end (λ z l. Made z (Sign Minus ∷ Number i ∷ l))
+      (expr.Literal (value.Int (pos 0 -ℤ pos i))) e ms end (make i le)
 
 pair_is : (e : Expr) (ls : List TokenKind) → PairIs IsExpr e ls → IsExpr e (Sign Open ∷ ls)
-pair_is e _ (both a _ ks _ is-a (both o _ _ _ (leaves.op k _ is-o)
-    (both b _ ls _ is-b (both c _ _ ms one end)))) =
-    with_end (λ z l. IsExpr z (Sign Open ∷ (ks ++ (k ∷ (ls ++ (Sign Close ∷ l))))))
-    (expr.Binary o a b) e
-    ms end (pair k o a b ks ls is-o is-a is-b)
+pair_is = pair_made IsExpr IsExpr
+    (λ k o a b ks ls is-o is-a is-b. pair k o a b ks ls is-o is-a is-b)
 
 pub pair_level : (n : ℕ) (e : Expr) (ls : List TokenKind) → PairIs (Level n) e ls
     → Level (suc n) e (Sign Open ∷ ls)
-pair_level n e _ (both a _ ks _ is-a (both o _ _ _ (leaves.op k _ is-o)
-    (both b _ ls _ is-b (both c _ _ ms one end)))) =
-    with_end (λ z l. Level (suc n) z (Sign Open ∷ (ks ++ (k ∷ (ls ++ (Sign Close ∷ l))))))
-    (expr.Binary o a b) e ms end
-    (record {
+pair_level n = pair_made (Level n) (Level (suc n))
+    (λ k o a b ks ls is-o is-a is-b. record {
       spells = pair k o a b ks ls is-o is-a.spells is-b.spells;
-      depth =
-          omega (arith, expr_depth-Binary o a b, is-a.depth, is-b.depth);
+      depth = omega (arith, expr_depth-Binary o a b, is-a.depth, is-b.depth);
     })
 
 not_is : (e : Expr) (ls : List TokenKind) → NotIs IsExpr e ls → IsExpr e (Keyword keyword.Not ∷ ls)
-not_is e _ (both a _ ks ms is end) =
-    with_end (λ z l. IsExpr z (Keyword keyword.Not ∷ (ks ++ l))) (expr.Not a) e ms end
-    (negated a (ks ++ []) (subst (λ (z : List TokenKind). IsExpr a z) (sym (append-nil ks)) is))
+not_is = not_made IsExpr IsExpr (λ a ks is. negated a ks is)
 
 not_level : (n : ℕ) (e : Expr) (ls : List TokenKind) → NotIs (Level n) e ls
     → Level (suc n) e (Keyword keyword.Not ∷ ls)
-not_level n e _ (both a _ ks ms is end) =
-    with_end (λ z l. Level (suc n) z (Keyword keyword.Not ∷ (ks ++ l))) (expr.Not a) e ms end
-    (record {
-      spells = negated a (ks ++ []) (subst (λ (z : List TokenKind). IsExpr a z)
-          (sym (append-nil ks)) is.spells);
+not_level n = not_made (Level n) (Level (suc n))
+    (λ a ks is. record {
+      spells = negated a ks is.spells;
       depth = omega (arith, expr_depth-Not a, is.depth);
     })
 
 column_is : (e : Expr) (ls : List TokenKind) → ColumnIs e ls → IsExpr e (Sign Dollar ∷ ls)
-column_is e _ (both _ _ _ ms (grammar.column i lt) end) =
-    with_end (λ z l. IsExpr z (Sign Dollar ∷ Number i ∷ l)) (expr.Col i) e ms end
-    (grammar.IsExpr.column i lt)
+column_is = column_made IsExpr (λ i lt. grammar.IsExpr.column i lt)
 
 column_level : (n : ℕ) (e : Expr) (ls : List TokenKind) → ColumnIs e ls
     → Level (suc n) e (Sign Dollar ∷ ls)
-column_level n e _ (both _ _ _ ms (grammar.column i lt) end) =
-    with_end (λ z l. Level (suc n) z (Sign Dollar ∷ Number i ∷ l)) (expr.Col i) e ms end
-    (record { spells = grammar.IsExpr.column i lt; depth = omega (arith, expr_depth-Col i) })
+column_level n = column_made (Level (suc n))
+    (λ i lt. record {
+      spells = grammar.IsExpr.column i lt;
+      depth = omega (arith, expr_depth-Col i);
+    })
 
 negative_is : (e : Expr) (ls : List TokenKind) → NegativeIs e ls → IsExpr e (Sign Minus ∷ ls)
-negative_is e _ (both _ _ _ ms (leaves.number i le) end) =
-    with_end (λ z l. IsExpr z (Sign Minus ∷ Number i ∷ l)) (expr.Literal
-    (value.Int (pos 0 -ℤ pos i))) e ms end
-    (negative i le)
+negative_is = negative_made IsExpr (λ i le. negative i le)
 
 negative_level : (n : ℕ) (e : Expr) (ls : List TokenKind) → NegativeIs e ls
     → Level (suc n) e (Sign Minus ∷ ls)
-negative_level n e _ (both _ _ _ ms (leaves.number i le) end) =
-    with_end (λ z l. Level (suc n) z (Sign Minus ∷ Number i ∷ l))
-    (expr.Literal (value.Int (pos 0 -ℤ pos i))) e ms
-    end
-    (record {
+negative_level n = negative_made (Level (suc n))
+    (λ i le. record {
       spells = negative i le;
-      depth =
-          omega (arith, expr_depth-Literal (value.Int (pos 0 -ℤ pos i)));
+      depth = omega (arith, expr_depth-Literal (value.Int (pos 0 -ℤ pos i)));
     })
 
 -- ---- one level
@@ -250,7 +264,7 @@ module _ (Begun Exprs : Type 0) (whole : Option ℕ) (n : ℕ) (read : Reads Exp
       branch (λ b. some_expr) (Sign Dollar) (Number i ∷ []) (expr.Col i)
       (λ at us rest h. (reads_column_expr Begun Exprs whole).only (expr.Col i) us rest
       (subst (λ (z : List TokenKind). ColumnIs (expr.Col i) z) h
-      (both i (expr.Col i) (Number i ∷ []) [] (grammar.IsColumn.column i lt) nothing)))
+      (both i (expr.Col i) (Number i ∷ []) [] (grammar.IsColumnPlace.column i lt) nothing)))
       prefix rest e
   only_level _ _ (negative i lt) le prefix rest e =
       layer_only Begun Exprs whole IsExpr (Level (suc n)) (expr_layer read) by refl (λ t ts. refl)

@@ -1,6 +1,5 @@
 -- No sentence of the grammar has the last token of a text; so the readers of expressions, of their
--- lists
--- and of plans are readers as all texts have them.
+-- lists and of plans are readers as all texts have them.
 use Rattle.std.proofs.Common.{◌≡◌, ℕ, ◌<◌, Bool, true, false, ◌||◌, List, [], ◌∷◌, ◌++◌, length}
 use Rattle.std.proofs.Common.{Option, Some, None, Err, refl, sym, ap, subst, ◌∙◌, append_assoc}
 use Rattle.std.proofs.Common.{append-nil, ◌⊎◌, inl, inr}
@@ -25,7 +24,7 @@ use Rattle.pipes_reader.proofs.Readers.{IsReader, RefusedAt, refused_as_well, fi
 use Rattle.pipes_expr.specs.declared.op.Op.{Op}
 use Rattle.pipes_grammar.specs.Ops.{op_of}
 use Rattle.pipes_grammar.specs.Grammar as grammar
-use Rattle.pipes_grammar.specs.Grammar.{IsExpr, AreEntries, IsFilled, IsList, IsColumn, IsPair}
+use Rattle.pipes_grammar.specs.Grammar.{IsExpr, AreEntries, IsFilled, IsList, IsColumnPlace, IsPair}
 use Rattle.pipes_grammar.specs.Grammar.{IsAgg, IsPlan}
 use Rattle.pipes_grammar.specs.Limits.{IsExprText, AreExprsText, IsPlanText}
 use Rattle.pipes_grammar.specs.Places.{RunsOut, IsExprPlace, IsExprsPlace, in_entry, ExprsRefused}
@@ -85,8 +84,8 @@ list_unended : {A : Type 0} (IsEntry : A → List TokenKind → Type 0) → AllU
 list_unended IsEntry h _ _ grammar.IsList.empty = refl
 list_unended IsEntry h _ _ (grammar.IsList.filled xs ks is) = filled_unended IsEntry h xs ks is
 
-column_unended : AllUnended IsColumn
-column_unended _ _ (grammar.IsColumn.column i lt) = refl
+column_unended : AllUnended IsColumnPlace
+column_unended _ _ (grammar.IsColumnPlace.column i lt) = refl
 
 pair_unended : AllUnended IsPair
 pair_unended _ _ (grammar.IsPair.pair i j lt lt2) = refl
@@ -126,7 +125,7 @@ plan_unended names _ _ (grammar.IsPlan.join pairs c a b ps cs ks ls ip ic is it)
 plan_unended names _ _ (grammar.IsPlan.distinct a ks is) = closed ks (plan_unended names a ks is)
 plan_unended names _ _ (grammar.IsPlan.group columns aggs a cs gs ks ic ig is) =
     comma_then cs (gs ++ (Sign Comma ∷ (ks ++ (Sign Close ∷ []))))
-    (list_unended IsColumn column_unended columns cs ic)
+    (list_unended IsColumnPlace column_unended columns cs ic)
     (comma_then gs (ks ++ (Sign Close ∷ [])) (list_unended IsAgg agg_unended aggs gs ig)
     (closed ks (plan_unended names a ks is)))
 plan_unended names _ _ (grammar.IsPlan.minus a b ks ls is it) =

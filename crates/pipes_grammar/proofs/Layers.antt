@@ -7,12 +7,13 @@ use Rattle.pipes_token.specs.declared.token.TokenKind.{TokenKind}
 use Rattle.pipes_token.specs.declared.token.TokenKind.TheVariants.{Sign, Keyword, Name, Number}
 use Rattle.pipes_token.specs.declared.token.TokenKind.TheVariants.{Text, Long, Cut, Byte, End}
 use Rattle.pipes_token.specs.declared.token.Token.{Token}
-use Rattle.pipes_reader.specs.Reading.{Reads, ◌>>=◌, kinds_of, done, run_out, refused_by}
-use Rattle.pipes_grammar.specs.Reading.{Prefix, wanted}
+use Rattle.pipes_time.specs.Results.{◌>>=◌}
+use Rattle.pipes_reader.specs.Reading.{Reads, kinds_of, done, run_out, refused_by}
+use Rattle.pipes_grammar.specs.Reading.{SentencePrefix, wanted}
 use Rattle.pipes_reader.specs.Sentences.{Begins}
 use Rattle.pipes_grammar.specs.Places.{RunsOut}
 use Rattle.pipes_reader.proofs.TokenLists.{uncons, none}
-use Rattle.pipes_reader.specs.Causes.{AreAlike, itself, two_numbers, two_names, IsWhy}
+use Rattle.pipes_reader.specs.Causes.{AreAlike, itself, two_numbers, two_names, IsTextWhy}
 use Rattle.pipes_reader.proofs.Causes.{why_map, CauseOf, plain_why}
 use Rattle.pipes_reader.proofs.Causes as causes
 use Rattle.pipes_grammar.proofs.Readers.{AtToken, there, inside, Ends, here, in_expr, deep, Stops}
@@ -106,7 +107,7 @@ Bars by k = (at : ℕ) (ts : List Token) → causes.Refuses (by k at) ts
 -- why a token that comes first is refused
 abbrev pub FirstWhy : {A : Type 0} → (A → List TokenKind → Type 0) → (TokenKind → ℕ → Reads A)
     → TokenKind → Refusal → Type 0
-FirstWhy Is bys k r = IsWhy (λ j. Begins Is (j ∷ [])) ⊥ (Bars bys) k r.why
+FirstWhy Is bys k r = IsTextWhy (λ j. Begins Is (j ∷ [])) ⊥ (Bars bys) k r.why
 
 -- what is read by a token of this kind: values of sentences that begin with it, or a refusal at it
 -- or after it
@@ -114,7 +115,7 @@ pub record Branch {A : Type 0} (bys : TokenKind → ℕ → Reads A) (Begun Expr
     (whole : Option ℕ) (Is IsW : A → List TokenKind → Type 0) (k : TokenKind) (by : ℕ → Reads A)
     : Type 0 where
   pub found : (at : ℕ) (ts : List Token) (x : A) (rest : List Token) → by at ts ≡ Ok (x, rest)
-      → Prefix (λ y ls. IsW y (k ∷ ls)) x ts rest
+      → SentencePrefix (λ y ls. IsW y (k ∷ ls)) x ts rest
   pub first : Begun → (at : ℕ) (ts : List Token) (r : Refusal) → by at ts ≡ Err r
       → (AtToken (token at k) r × FirstWhy Is bys k r
       × ((other : List Token) → by at other ≡ Err r))
@@ -237,7 +238,7 @@ module _ {A : Type 0} (Begun Exprs : Type 0) (whole : Option ℕ) (Is IsW : A �
     (branch : (k : TokenKind) → Branch by Begun Exprs whole Is IsW k (by k)) (some : Begun
     → Begins Is []) where
   pub layer_found : (ts : List Token) (x : A) (rest : List Token) → read ts ≡ Ok (x, rest)
-      → Prefix IsW x ts rest
+      → SentencePrefix IsW x ts rest
   layer_found [] x rest e = absurd cc
   layer_found (t ∷ ts) x rest e =
       let f = (branch t.kind).found t.at ts x rest (sym (at_token t ts) ∙ e) in

@@ -11,7 +11,7 @@ use Rattle.pipes_token.specs.declared.token.Token.{Token}
 use Rattle.pipes_expr.specs.declared.op.Op.{Op}
 use Rattle.pipes_expr.specs.declared.op.Op.TheVariants.{Add}
 use Rattle.pipes_grammar.specs.Ops.{op_of}
-use Rattle.pipes_grammar.specs.Grammar.{IsColumn, column}
+use Rattle.pipes_grammar.specs.Grammar.{IsColumnPlace, column}
 use Rattle.pipes_reader.specs.Reading.{Reads, kinds_of, refusal, refused_by}
 use Rattle.pipes_grammar.specs.ExprReading.{column_by, read_column, negative_by, read_negative}
 use Rattle.pipes_grammar.specs.ExprReading.{op_or, read_op}
@@ -25,44 +25,50 @@ use Rattle.pipes_grammar.proofs.Layers.{layer_found, layer_first, layer_one}
 -- ---- columns
 
 column_test : (Begun Exprs : Type 0) (whole : Option ℕ) (n : ℕ) (b : Bool) → (b ≡ true → n < 32)
-    → Branch column_by Begun Exprs whole IsColumn IsColumn (Number n) (λ at ts. cond b (Ok (n, ts))
+    → Branch column_by Begun Exprs whole IsColumnPlace IsColumnPlace (Number n)
+    (λ at ts. cond b (Ok (n, ts))
     (Err (refusal at why.Range)))
-column_test Begun Exprs whole n true h = takes column_by Begun Exprs whole IsColumn IsColumn
+column_test Begun Exprs whole n true h = takes column_by Begun Exprs whole IsColumnPlace
+    IsColumnPlace
     (Number n)
     (λ at ts. Ok (n, ts)) n (column n (h refl)) (λ at ts. refl)
 column_test Begun Exprs whole n false h =
-    refuses column_by Begun Exprs whole IsColumn IsColumn (Number n)
+    refuses column_by Begun Exprs whole IsColumnPlace IsColumnPlace (Number n)
     (λ at ts. Err (refusal at why.Range)) (λ at. refusal at why.Range) (λ at ts. refl)
     (λ at. there refl) (λ b at. other_number n 0 (0, [], column 0 (omega arith)))
 
 column_branch : (Begun Exprs : Type 0) (whole : Option ℕ) (k : TokenKind)
-    → Branch column_by Begun Exprs whole IsColumn IsColumn k (column_by k)
+    → Branch column_by Begun Exprs whole IsColumnPlace IsColumnPlace k (column_by k)
 column_branch Begun Exprs whole (Number n) = column_test Begun Exprs whole n (ltb n 32)
     (λ e. ltb-true n 32 e)
 column_branch Begun Exprs whole k =
-    plainly column_by Begun Exprs whole IsColumn IsColumn k (λ at ts. refl) (λ n m e. absurd cc)
+    plainly column_by Begun Exprs whole IsColumnPlace IsColumnPlace k (λ at ts. refl)
+    (λ n m e. absurd cc)
     (λ v w e at ts. (refused_by (Name w) at, refl))
 
-pub some_column : Begins IsColumn []
+pub some_column : Begins IsColumnPlace []
 some_column = (0, Number 0 ∷ [], column 0 (omega arith))
 
 pub reads_column : (Begun Exprs : Type 0) (whole : Option ℕ)
-    → IsReader Begun Exprs whole IsColumn IsColumn read_column
+    → IsReader Begun Exprs whole IsColumnPlace IsColumnPlace read_column
 unfolding read_column
 reads_column Begun Exprs whole = record {
-  found = layer_found Begun Exprs whole IsColumn IsColumn read_column column_by refl (λ t ts. refl)
+  found = layer_found Begun Exprs whole IsColumnPlace IsColumnPlace read_column column_by refl
+      (λ t ts. refl)
       (column_branch Begun Exprs whole) (λ b. some_column);
   only = λ x prefix rest is. only x (kinds_of prefix) is prefix rest refl;
   wider = λ x ks is. is;
   some = λ b. some_column;
-  first = layer_first Begun Exprs whole IsColumn IsColumn read_column column_by refl (λ t ts. refl)
+  first = layer_first Begun Exprs whole IsColumnPlace IsColumnPlace read_column column_by refl
+      (λ t ts. refl)
       (column_branch Begun Exprs whole) (λ b. some_column);
 }
   where
-    only : (x : ℕ) (ks : List TokenKind) → IsColumn x ks → (prefix rest : List Token)
+    only : (x : ℕ) (ks : List TokenKind) → IsColumnPlace x ks → (prefix rest : List Token)
         → ks ≡ kinds_of prefix → read_column (prefix ++ rest) ≡ Ok (x, rest)
     only _ _ (column i lt) prefix rest e =
-        layer_one Begun Exprs whole IsColumn IsColumn read_column column_by refl (λ t ts. refl)
+        layer_one Begun Exprs whole IsColumnPlace IsColumnPlace read_column column_by refl
+        (λ t ts. refl)
         (column_branch Begun Exprs whole) (λ b. some_column)
         (Number i) i (λ at ts. rw (lt-ltb i 32 lt) refl) prefix rest e
 

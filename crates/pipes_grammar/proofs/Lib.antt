@@ -9,6 +9,7 @@ pub mod WholeExprs
 pub mod ListReaders
 pub mod EntryReaders
 pub mod NodeReaders
+pub mod PlanNodes
 pub mod PlanLevels
 pub mod WholePlans
 pub mod KitReaders

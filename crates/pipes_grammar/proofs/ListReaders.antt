@@ -11,11 +11,13 @@ use Rattle.pipes_token.specs.declared.token.TokenKind.TheVariants.{Sign, Name, N
 use Rattle.pipes_token.specs.declared.token.Token.{Token}
 use Rattle.pipes_grammar.specs.Grammar.{AreEntries, last, more, IsFilled, entries, IsList, empty}
 use Rattle.pipes_grammar.specs.Grammar.{filled}
-use Rattle.pipes_reader.specs.Reading.{Reads, ◌>>=◌, kinds_of, done, refusal, refused_by}
+use Rattle.pipes_time.specs.Results.{◌>>=◌}
+use Rattle.pipes_reader.specs.Reading.{Reads, kinds_of, done, refusal, refused_by}
 use Rattle.pipes_reader.specs.Reading.{refused_as, run_out, too_many}
-use Rattle.pipes_grammar.specs.Reading.{Prefix, wanted}
+use Rattle.pipes_grammar.specs.Reading.{SentencePrefix, wanted}
 use Rattle.pipes_grammar.specs.ListReading.{is_open_list, goes_on_by, read_goes_on, step_from}
-use Rattle.pipes_grammar.specs.ListReading.{later, followed, entries_within, filled_from, list_by}
+use Rattle.pipes_grammar.specs.ListReading.{after_prefix, followed_by, entries_within, filled_from}
+use Rattle.pipes_grammar.specs.ListReading.{list_by}
 use Rattle.pipes_grammar.specs.ListReading.{entries_from, list_from}
 use Rattle.pipes_reader.specs.Sentences.{Begins}
 use Rattle.pipes_grammar.specs.Places.{RunsOut}
@@ -117,7 +119,7 @@ module _ {A : Type 0} (Begun Exprs : Type 0) (whole : Option ℕ) (Is IsW : A �
   reads_followed : (Others OthersW : List A → List TokenKind → Type 0) (others : Reads (List A))
       → IsReader Begun Exprs whole Others OthersW others
       → (p : A × Bool) → IsReader Begun Exprs whole (FollowedIs Others p) (FollowedIs OthersW p)
-      (followed p others)
+      (followed_by p others)
   reads_followed Others OthersW others rest (x, true) =
       reads_in_turn Begun Exprs whole Others OthersW (λ xs. Nothing (x ∷ xs))
       (λ xs. Nothing (x ∷ xs)) others (λ xs ts. Ok (x ∷ xs, ts)) rest
@@ -127,10 +129,10 @@ module _ {A : Type 0} (Begun Exprs : Type 0) (whole : Option ℕ) (Is IsW : A �
   reads_entries_from : (Others OthersW : List A → List TokenKind → Type 0) (others : Reads (List A))
       → IsReader Begun Exprs whole Others OthersW others
       → IsReader Begun Exprs whole (EntriesIs Is Others) (EntriesIs IsW OthersW)
-      (in_turn (step_from read) (λ p. followed p others))
+      (in_turn (step_from read) (λ p. followed_by p others))
   reads_entries_from Others OthersW others rest =
       reads_in_turn Begun Exprs whole (StepIs Is) (StepIs IsW) (FollowedIs Others)
-      (FollowedIs OthersW) (step_from read) (λ p. followed p others) reads_step
+      (FollowedIs OthersW) (step_from read) (λ p. followed_by p others) reads_step
       (reads_followed Others OthersW others rest)
 
 -- what is read so is what stands in the list
@@ -451,7 +453,7 @@ module _ {A : Type 0} (Begun Exprs : Type 0) (Is IsW : A → List TokenKind → 
       by _ h = refl
 
   rest_found : (ts : List Token) (xs : List A) (rest : List Token)
-      → entries_from read ts ≡ Ok (xs, rest) → Prefix (RestWithin IsW) xs ts rest
+      → entries_from read ts ≡ Ok (xs, rest) → SentencePrefix (RestWithin IsW) xs ts rest
   unfolding entries_from
   rest_found [] xs rest e = absurd cc
   rest_found (t ∷ ts) xs rest e = elim (decide t.kind) [

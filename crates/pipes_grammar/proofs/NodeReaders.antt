@@ -11,9 +11,10 @@ use Rattle.pipes_relation.specs.declared.lists.Pair.{Pair}
 use Rattle.pipes_relation.specs.declared.lists.Agg.{Agg}
 use Rattle.pipes_plan.specs.declared.plan.Plan.{Plan}
 use Rattle.pipes_plan.specs.declared.plan.Plan.TheVariants as plan
-use Rattle.pipes_grammar.specs.Grammar.{IsExpr, IsFilled, IsList, IsColumn, IsPair, IsAgg}
+use Rattle.pipes_grammar.specs.Grammar.{IsExpr, IsFilled, IsList, IsColumnPlace, IsPair, IsAgg}
 use Rattle.pipes_grammar.specs.Limits.{IsExprText, AreExprsText}
-use Rattle.pipes_reader.specs.Reading.{Reads, ◌>>=◌}
+use Rattle.pipes_time.specs.Results.{◌>>=◌}
+use Rattle.pipes_reader.specs.Reading.{Reads}
 use Rattle.pipes_grammar.specs.Reading.{wanted}
 use Rattle.pipes_grammar.specs.ExprReading.{is_close, parse_expr}
 use Rattle.pipes_grammar.specs.ListReading.{parse_exprs, parse_pairs, parse_columns, parse_aggs}
@@ -178,11 +179,12 @@ reads_join_head Begun whole =
     IsExprText parse_expr (reads_pairs Begun (Unit {0}) whole) (reads_expr Begun whole)
 
 pub reads_group_head : (Begun : Type 0) (whole : Option ℕ)
-    → IsReader Begun (Unit {0}) whole (Heads (IsList IsColumn) (IsList IsAgg))
-    (Heads (ListWithin IsColumn) (ListWithin IsAgg)) group_head
+    → IsReader Begun (Unit {0}) whole (Heads (IsList IsColumnPlace) (IsList IsAgg))
+    (Heads (ListWithin IsColumnPlace) (ListWithin IsAgg)) group_head
 unfolding group_head
 reads_group_head Begun whole =
-    reads_heads Begun (Unit {0}) whole (IsList IsColumn) (ListWithin IsColumn) parse_columns
+    reads_heads Begun (Unit {0}) whole (IsList IsColumnPlace) (ListWithin IsColumnPlace)
+    parse_columns
     (IsList IsAgg) (ListWithin IsAgg) parse_aggs
     (reads_columns Begun (Unit {0}) whole) (reads_aggs Begun (Unit {0}) whole)
 
@@ -347,8 +349,8 @@ module _ (Begun : Type 0) (whole : Option ℕ) (Is IsW : Plan → List TokenKind
       (λ a ts. Ok (plan.Distinct a, ts)) reads_one (λ a. reads_nothing Begun Exprs whole
       (plan.Distinct a)))
 
-  pub reads_group : IsReader Begun Exprs whole (GroupIs (IsList IsColumn) (IsList IsAgg) Is)
-      (GroupIs (ListWithin IsColumn) (ListWithin IsAgg) IsW) (group_from read)
+  pub reads_group : IsReader Begun Exprs whole (GroupIs (IsList IsColumnPlace) (IsList IsAgg) Is)
+      (GroupIs (ListWithin IsColumnPlace) (ListWithin IsAgg) IsW) (group_from read)
   unfolding group_from
   reads_group =
       reads_in_turn Begun Exprs whole _ _ _ _ group_head (λ h. in_turn (one_from read)

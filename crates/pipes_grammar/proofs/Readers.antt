@@ -10,9 +10,10 @@ use Rattle.pipes_token.specs.declared.token.TokenKind.TheVariants.{Text, Long, C
 use Rattle.pipes_token.specs.declared.token.Token.{Token}
 use Rattle.pipes_grammar.specs.Grammar.{IsExpr}
 use Rattle.pipes_grammar.specs.Limits.{IsExprText}
-use Rattle.pipes_reader.specs.Reading.{Reads, ◌>>=◌, kinds_of, done, refusal, run_out, refused_by}
+use Rattle.pipes_time.specs.Results.{◌>>=◌}
+use Rattle.pipes_reader.specs.Reading.{Reads, kinds_of, done, refusal, run_out, refused_by}
 use Rattle.pipes_reader.specs.Reading.{too_deep}
-use Rattle.pipes_grammar.specs.Reading.{Prefix, wanted}
+use Rattle.pipes_grammar.specs.Reading.{SentencePrefix, wanted}
 use Rattle.pipes_reader.specs.Sentences.{Begins}
 use Rattle.pipes_grammar.specs.Places.{RunsOut, IsTooDeep}
 use Rattle.pipes_reader.proofs.TokenLists.{kinds-append, Parts, split, none, Cons, uncons}
@@ -28,8 +29,8 @@ pub data AtToken (t : Token) (r : Refusal) : Type 0 where
   inside : t.kind ≡ Cut r → AtToken t r
 
 -- Why it stops at the token t after the tokens before: that token, an expression that is too deep
--- (where Exprs allows one), or the
--- whole is too deep, which begins at a place (where it has a limit of levels)
+-- (where Exprs allows one), or the whole is too deep, which begins at a place (where it has a limit
+-- of levels)
 pub data Ends {A : Type 0} (Exprs : Type 0) (whole : Option ℕ) (read : Reads A)
     (before : List Token) (t : Token) (r : Refusal) : Type 0 where
   here : AtToken t r → Ends Exprs whole read before t r
@@ -56,12 +57,11 @@ abbrev pub Refuses : {A : Type 0} → Type 0 → Option ℕ → (A → List Toke
 Refuses Exprs whole Is read ts r = RunsOut Is ts r ⊎ Stops Exprs whole Is read ts r
 
 -- A reader finds prefixes that are within the limits, gives each of them, and refuses at the first
--- token with which nothing goes on,
--- where any sentence begins (Begun).
+-- token with which nothing goes on, where any sentence begins (Begun).
 pub record IsReader {A : Type 0} (Begun Exprs : Type 0) (whole : Option ℕ) (Is Within : A
     → List TokenKind → Type 0) (read : Reads A) : Type 0 where
   pub found : (ts : List Token) (x : A) (rest : List Token) → read ts ≡ Ok (x, rest)
-      → Prefix Within x ts rest
+      → SentencePrefix Within x ts rest
   pub only : (x : A) (prefix rest : List Token) → Within x (kinds_of prefix)
       → read (prefix ++ rest) ≡ Ok (x, rest)
   pub wider : (x : A) (ks : List TokenKind) → Within x ks → Is x ks
@@ -143,7 +143,7 @@ module _ {A B : Type 0} (Begun Exprs : Type 0) (whole : Option ℕ) (Is IsW : A 
     (two : (x : A) → IsReader Begun Exprs whole (Next x) (NextW x) (next x)) where
   found_both : (ts : List Token) (y : B) (rest : List Token) (q : Result (A × List Token) Refusal)
       → read ts ≡ q → (q >>= λ x. next x.0 x.1) ≡ Ok (y, rest)
-      → Prefix (Then IsW NextW) y ts rest
+      → SentencePrefix (Then IsW NextW) y ts rest
   found_both ts y rest (Ok (x, us)) is e =
       let f = one.found ts x us is in
       let g = (two x).found us y rest e in (

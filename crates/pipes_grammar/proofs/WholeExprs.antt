@@ -14,7 +14,7 @@ use Rattle.pipes_grammar.specs.Grammar.{IsExpr, column, number, negative, text, 
 use Rattle.pipes_grammar.specs.Grammar.{negated, pair}
 use Rattle.pipes_grammar.specs.Limits.{IsExprText}
 use Rattle.pipes_reader.specs.Reading.{Reads, kinds_of, Fails, place_of}
-use Rattle.pipes_grammar.specs.Reading.{Prefix}
+use Rattle.pipes_grammar.specs.Reading.{SentencePrefix}
 use Rattle.pipes_grammar.specs.ExprReading.{expr_layer, expr_within, parse_expr}
 use Rattle.pipes_reader.specs.Sentences.{Begins}
 use Rattle.pipes_reader.specs.Places.{FirstPlace}
@@ -62,7 +62,7 @@ reads_whole whole =
 -- ---- the laws
 
 pub expr_found : (ts : List Token) (e : Expr) (rest : List Token) → parse_expr ts ≡ Ok (e, rest)
-    → Prefix IsExprText e ts rest
+    → SentencePrefix IsExprText e ts rest
 unfolding parse_expr
 expr_found ts e rest h = whole_found (Unit {0}) ⊥ IsExpr IsExprText (λ whole. expr_within 32 whole)
     reads_whole ts e rest h
@@ -131,6 +131,6 @@ reads_expr Begun whole = record {
       cause = f.cause;
     })
 
-pub expr_prefix : (e : Expr) (ts rest : List Token) → Prefix IsExprText e ts rest
+pub expr_prefix : (e : Expr) (ts rest : List Token) → SentencePrefix IsExprText e ts rest
     → parse_expr ts ≡ Ok (e, rest)
 expr_prefix e ts rest (prefix, is, parts) = rw parts (expr_only e prefix rest is)

@@ -13,7 +13,7 @@ use Rattle.pipes_grammar.specs.Grammar.{IsPlan, source, filter, mapped, union, j
 use Rattle.pipes_grammar.specs.Grammar.{group, minus}
 use Rattle.pipes_grammar.specs.Limits.{IsPlanText}
 use Rattle.pipes_reader.specs.Reading.{Reads, kinds_of, Fails, place_of, too_deep}
-use Rattle.pipes_grammar.specs.Reading.{Prefix}
+use Rattle.pipes_grammar.specs.Reading.{SentencePrefix}
 use Rattle.pipes_grammar.specs.PlanReading.{plan_layer, plan_within, parse_plan}
 use Rattle.pipes_reader.specs.Sentences.{Begins}
 use Rattle.pipes_reader.specs.Places.{FirstPlace}
@@ -69,7 +69,7 @@ reads_whole names whole =
 -- ---- the laws
 
 pub plan_found : (names : List (List ℕ)) (ts : List Token) (p : Plan) (rest : List Token)
-    → parse_plan names ts ≡ Ok (p, rest) → Prefix (IsPlanText names) p ts rest
+    → parse_plan names ts ≡ Ok (p, rest) → SentencePrefix (IsPlanText names) p ts rest
 unfolding parse_plan
 plan_found names ts p rest h = (reads_whole names (place_of ts)).found ts p rest h
 
@@ -81,7 +81,7 @@ plan_only names p prefix rest is = (reads_whole names (place_of (prefix ++ rest)
     is
 
 pub plan_prefix : (names : List (List ℕ)) (p : Plan) (ts rest : List Token)
-    → Prefix (IsPlanText names) p ts rest → parse_plan names ts ≡ Ok (p, rest)
+    → SentencePrefix (IsPlanText names) p ts rest → parse_plan names ts ≡ Ok (p, rest)
 plan_prefix names p ts rest (prefix, is, parts) = rw parts (plan_only names p prefix rest is)
 
 pub plan_place : (names : List (List ℕ)) (before : List Token) (t : Token) (r : Refusal)

@@ -11,7 +11,7 @@ use Rattle.pipes_grammar.specs.Grammar.{IsExpr}
 use Rattle.pipes_grammar.specs.Limits.{IsExprText}
 use Rattle.pipes_reader.specs.Reading.{Reads, kinds_of, done, refusal, run_out, refused_as}
 use Rattle.pipes_reader.specs.Reading.{place_of, too_deep}
-use Rattle.pipes_grammar.specs.Reading.{Prefix}
+use Rattle.pipes_grammar.specs.Reading.{SentencePrefix}
 use Rattle.pipes_reader.specs.Sentences.{Begins}
 use Rattle.pipes_reader.specs.Places.{FirstPlace}
 use Rattle.pipes_grammar.specs.Places.{RunsOut, IsTooDeep}
@@ -196,7 +196,7 @@ module _ {A : Type 0} (Begun Exprs : Type 0) (Is IsW : A → List TokenKind → 
       inr (first_place IsW parse barred Is Where Where2 place ts r s)
 
   pub whole_found : (ts : List Token) (x : A) (rest : List Token) → parse ts ≡ Ok (x, rest)
-      → Prefix IsW x ts rest
+      → SentencePrefix IsW x ts rest
   whole_found ts x rest e = (reads (place_of ts)).found ts x rest e
 
   pub whole_only : (x : A) (prefix rest : List Token) → IsW x (kinds_of prefix)
@@ -204,5 +204,6 @@ module _ {A : Type 0} (Begun Exprs : Type 0) (Is IsW : A → List TokenKind → 
   whole_only x prefix rest is = (reads (place_of (prefix ++ rest))).only x prefix rest is
 
   -- what is read of a text that begins with a sentence
-  pub whole_prefix : (x : A) (ts rest : List Token) → Prefix IsW x ts rest → parse ts ≡ Ok (x, rest)
+  pub whole_prefix : (x : A) (ts rest : List Token) → SentencePrefix IsW x ts rest
+      → parse ts ≡ Ok (x, rest)
   whole_prefix x ts rest (prefix, is, parts) = ap parse parts ∙ whole_only x prefix rest is

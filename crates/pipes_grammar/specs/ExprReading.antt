@@ -16,7 +16,8 @@ use Rattle.pipes_grammar.specs.declared.start.ExprStart.{ExprStart}
 use Rattle.pipes_grammar.specs.declared.start.ExprStart.TheVariants.{Pair, Not, Column, Negative}
 use Rattle.pipes_grammar.specs.declared.start.ExprStart.TheVariants.{Flag, Leaf}
 use Rattle.pipes_grammar.specs.Ops.{op_of}
-use Rattle.pipes_reader.specs.Reading.{Reads, ◌>>=◌, run_out, refusal, refused_by, place_of}
+use Rattle.pipes_time.specs.Results.{◌>>=◌}
+use Rattle.pipes_reader.specs.Reading.{Reads, run_out, refusal, refused_by, place_of}
 use Rattle.pipes_reader.specs.Reading.{too_deep}
 use Rattle.pipes_grammar.specs.Reading.{wanted}
 
@@ -103,10 +104,10 @@ start_of_keyword keyword.True = Flag true
 start_of_keyword keyword.False = Flag false
 start_of_keyword _ = Leaf
 
-abbrev pub start_of : TokenKind → ExprStart
-start_of (Sign s) = start_of_sign s
-start_of (Keyword k) = start_of_keyword k
-start_of _ = Leaf
+abbrev pub expr_start_of : TokenKind → ExprStart
+expr_start_of (Sign s) = start_of_sign s
+expr_start_of (Keyword k) = start_of_keyword k
+expr_start_of _ = Leaf
 
 abbrev pub expr_by_start : ExprStart → TokenKind → ℕ → Reads Expr → Reads Expr
 expr_by_start Pair k at read ts = pair_from read ts
@@ -118,7 +119,7 @@ expr_by_start Leaf k at read ts = leaf_by k at ts
 
 -- the expression that begins with a token of this kind at this place
 abbrev pub expr_by : TokenKind → ℕ → Reads Expr → Reads Expr
-expr_by k at read ts = expr_by_start (start_of k) k at read ts
+expr_by k at read ts = expr_by_start (expr_start_of k) k at read ts
 
 unfoldable pub expr_layer : Reads Expr → Reads Expr
 expr_layer read [] = Err run_out

@@ -61,8 +61,8 @@ pub data IsList {A : Type 0} (IsEntry : A → List TokenKind → Type 0) : List 
   filled : (xs : List A) (ks : List TokenKind) → IsFilled IsEntry xs ks → IsList IsEntry xs ks
 
 -- an entry of `cols`
-pub data IsColumn : ℕ → List TokenKind → Type 0 where
-  column : (i : ℕ) → i < 32 → IsColumn i (Number i ∷ [])
+pub data IsColumnPlace : ℕ → List TokenKind → Type 0 where
+  column : (i : ℕ) → i < 32 → IsColumnPlace i (Number i ∷ [])
 
 -- `pair`
 pub data IsPair : Pair → List TokenKind → Type 0 where
@@ -108,7 +108,7 @@ pub data IsPlan (names : List (List ℕ)) : Plan → List TokenKind → Type 0 w
       → IsPlan names (plan.Distinct a) (Keyword keyword.Distinct ∷ Sign Open ∷
       (ks ++ (Sign Close ∷ [])))
   group : (columns : List ℕ) (aggs : List Agg) (a : Plan) (cs gs ks : List TokenKind)
-      → IsList IsColumn columns cs → IsList IsAgg aggs gs
+      → IsList IsColumnPlace columns cs → IsList IsAgg aggs gs
       → IsPlan names a ks
       → IsPlan names (plan.Group columns aggs a)
       (Keyword keyword.Group ∷ Sign Open ∷

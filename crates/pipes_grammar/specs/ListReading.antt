@@ -14,7 +14,8 @@ use Rattle.pipes_relation.specs.declared.lists.Agg.TheVariants as agg
 use Rattle.pipes_grammar.specs.declared.start.AggStart.{AggStart}
 use Rattle.pipes_grammar.specs.declared.start.AggStart.TheVariants.{Count, Sum, Min, Max, Avg}
 use Rattle.pipes_grammar.specs.declared.start.AggStart.TheVariants.{Other}
-use Rattle.pipes_reader.specs.Reading.{Reads, ◌>>=◌, run_out, refused_by, too_many}
+use Rattle.pipes_time.specs.Results.{◌>>=◌}
+use Rattle.pipes_reader.specs.Reading.{Reads, run_out, refused_by, too_many}
 use Rattle.pipes_grammar.specs.Reading.{wanted}
 use Rattle.pipes_grammar.specs.ExprReading.{read_column, parse_expr}
 
@@ -46,20 +47,20 @@ step_from read ts = do
   Ok ((x.0, goes_on.0), goes_on.1)
 
 -- what is read after other entries
-abbrev pub later : {A : Type 0} → List A → Result (List A × List Token) Refusal
+abbrev pub after_prefix : {A : Type 0} → List A → Result (List A × List Token) Refusal
     → Result (List A × List Token) Refusal
-later prefix others = others >>= λ xs. Ok (prefix ++ xs.0, xs.1)
+after_prefix prefix others = others >>= λ xs. Ok (prefix ++ xs.0, xs.1)
 
-abbrev pub followed : {A : Type 0} → A × Bool → Reads (List A) → Reads (List A)
-followed (x, true) others ts = later (x ∷ []) (others ts)
-followed (x, false) others ts = Ok (x ∷ [], ts)
+abbrev pub followed_by : {A : Type 0} → A × Bool → Reads (List A) → Reads (List A)
+followed_by (x, true) others ts = after_prefix (x ∷ []) (others ts)
+followed_by (x, false) others ts = Ok (x ∷ [], ts)
 
 -- at most so many entries and the end of the list
 unfoldable pub entries_within : {A : Type 0} → Reads A → ℕ → Reads (List A)
 entries_within read zero ts = Err (too_many ts)
 entries_within read (suc left) ts = do
   x ← step_from read ts
-  followed x.0 (entries_within read left) x.1
+  followed_by x.0 (entries_within read left) x.1
 
 -- a list that isn't empty
 unfoldable pub filled_from : {A : Type 0} → Reads A → Reads (List A)

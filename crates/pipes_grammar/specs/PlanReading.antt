@@ -16,7 +16,8 @@ use Rattle.pipes_grammar.specs.declared.start.PlanStart.{PlanStart}
 use Rattle.pipes_grammar.specs.declared.start.PlanStart.TheVariants.{Source, Filter, Map, Union}
 use Rattle.pipes_grammar.specs.declared.start.PlanStart.TheVariants.{Join, Distinct, Group, Minus}
 use Rattle.pipes_grammar.specs.Grammar.{source_named}
-use Rattle.pipes_reader.specs.Reading.{Reads, ◌>>=◌, run_out, refusal, refused_by, place_of}
+use Rattle.pipes_time.specs.Results.{◌>>=◌}
+use Rattle.pipes_reader.specs.Reading.{Reads, run_out, refusal, refused_by, place_of}
 use Rattle.pipes_reader.specs.Reading.{too_deep}
 use Rattle.pipes_grammar.specs.Reading.{wanted}
 use Rattle.pipes_grammar.specs.ExprReading.{is_close, parse_expr}

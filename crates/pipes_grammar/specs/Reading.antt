@@ -5,9 +5,10 @@ use Rattle.pipes_token.specs.declared.token.Token.{Token}
 use Rattle.pipes_reader.specs.Reading.{Reads, kinds_of, run_out, refused_by}
 
 -- the tokens begin with a sentence of this value, and these are left
-abbrev pub Prefix : {A : Type 0} → (A → List TokenKind → Type 0) → A → List Token → List Token
+abbrev pub SentencePrefix : {A : Type 0} → (A → List TokenKind → Type 0) → A → List Token
+    → List Token
     → Type 0
-Prefix Is x ts rest = (prefix : List Token) × Is x (kinds_of prefix) × (ts ≡ prefix ++ rest)
+SentencePrefix Is x ts rest = (prefix : List Token) × Is x (kinds_of prefix) × (ts ≡ prefix ++ rest)
 
 -- one token that is wanted
 unfoldable pub wanted : (TokenKind → Bool) → Reads (Unit {0})

@@ -4,7 +4,7 @@ ghost use Rattle.pipes_token.specs.declared.token.Token.{Token};
 ghost use Rattle.pipes_expr.specs.declared.expr.Expr.{Expr};
 ghost use Rattle.pipes_grammar.specs.Limits.{IsExprText};
 ghost use Rattle.pipes_reader.specs.Reading.{Gives, done};
-ghost use Rattle.pipes_grammar.specs.Reading.{Prefix};
+ghost use Rattle.pipes_grammar.specs.Reading.{SentencePrefix};
 ghost use Rattle.pipes_grammar.specs.ExprReading as spec;
 ghost use Rattle.pipes_grammar.specs.Places.{ExprRefused};
 
@@ -194,9 +194,9 @@ pub fn parse_expr(alloc: Global, tokens: &[Token]) -> Result<(Expr, &[Token]), P
 #[tactic(auto, using(crate::proofs::WholeExprs::expr_found, crate::proofs::WholeExprs::expr_refused))]
 pub fn read_expr(alloc: Global, tokens: &[Token]) -> Result<(Expr, &[Token]), ParseFault>
     // What is read is spelled by the tokens before the rest.
-    ensures found { IfOk result (λ x. Prefix IsExprText x.0 tokens.now x.1.now) }
+    ensures found { IfOk result (λ x. SentencePrefix IsExprText x.0 tokens.now x.1.now) }
     // What is spelled so is read, unless memory runs out.
-    ensures only { (e : Expr) (rest : List Token) → Prefix IsExprText e tokens.now rest
+    ensures only { (e : Expr) (rest : List Token) → SentencePrefix IsExprText e tokens.now rest
         → Gives (λ x. (x.0, x.1.now)) result (done e rest) }
     // A refusal comes at the first token with which no expression goes on.
     ensures first { IfErr result (λ fault. ExprRefused spec.parse_expr tokens.now fault) }

@@ -5,7 +5,7 @@ ghost use Rattle.pipes_token.specs.declared.token.Token.{Token};
 ghost use Rattle.pipes_expr.specs.declared.expr.Expr.{Expr};
 ghost use Rattle.pipes_grammar.specs.Limits.{AreExprsText};
 ghost use Rattle.pipes_reader.specs.Reading.{Gives, done};
-ghost use Rattle.pipes_grammar.specs.Reading.{Prefix};
+ghost use Rattle.pipes_grammar.specs.Reading.{SentencePrefix};
 ghost use Rattle.pipes_grammar.specs.Places.{ExprsRefused};
 ghost use Rattle.pipes_grammar.specs.ListReading as spec;
 
@@ -142,9 +142,10 @@ pub fn list_from<T: Entry + Drop>(
 #[tactic(auto, using(crate::proofs::EntryReaders::exprs_found, crate::proofs::KitReaders::exprs_refused))]
 pub fn read_exprs(alloc: Global, tokens: &[Token]) -> Result<(Exprs, &[Token]), ParseFault>
     // What is read is spelled by the tokens before the rest.
-    ensures found { IfOk result (λ x. Prefix AreExprsText x.0 tokens.now x.1.now) }
+    ensures found { IfOk result (λ x. SentencePrefix AreExprsText x.0 tokens.now x.1.now) }
     // What is spelled so is read, unless memory runs out.
-    ensures only { (es : List Expr) (rest : List Token) → Prefix AreExprsText es tokens.now rest
+    ensures only { (es : List Expr) (rest : List Token)
+        → SentencePrefix AreExprsText es tokens.now rest
         → Gives (λ x. (x.0, x.1.now)) result (done es rest) }
     // A refusal comes at the first place at which the tokens can't go on.
     ensures first { IfErr result (λ fault. ExprsRefused spec.parse_exprs tokens.now fault) }

@@ -5,7 +5,7 @@ ghost use Rattle.pipes_plan.specs.declared.plan.Plan.{Plan};
 ghost use Rattle.pipes_grammar.specs.Grammar as grammar;
 ghost use Rattle.pipes_grammar.specs.Limits.{IsPlanText};
 ghost use Rattle.pipes_reader.specs.Reading.{Gives, done};
-ghost use Rattle.pipes_grammar.specs.Reading.{Prefix};
+ghost use Rattle.pipes_grammar.specs.Reading.{SentencePrefix};
 ghost use Rattle.pipes_grammar.specs.PlanReading as spec;
 ghost use Rattle.pipes_grammar.specs.Places.{PlanRefused};
 
@@ -286,9 +286,11 @@ pub fn read_plan<'a>(
 ) -> Result<(Plan, &'a [Token]), ParseFault>
     requires { length names.now < 2 ^ 32 }
     // What is read is spelled by the tokens before the rest.
-    ensures found { IfOk result (λ x. Prefix (IsPlanText names.now) x.0 tokens.now x.1.now) }
+    ensures found { IfOk result
+        (λ x. SentencePrefix (IsPlanText names.now) x.0 tokens.now x.1.now) }
     // What is spelled so is read, unless memory runs out.
-    ensures only { (p : Plan) (rest : List Token) → Prefix (IsPlanText names.now) p tokens.now rest
+    ensures only { (p : Plan) (rest : List Token)
+        → SentencePrefix (IsPlanText names.now) p tokens.now rest
         → Gives (λ x. (x.0, x.1.now)) result (done p rest) }
     // Where a source is declared, a refusal comes at the first token with which no plan goes on.
     ensures first { 0 < length names.now

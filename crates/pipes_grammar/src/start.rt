@@ -46,7 +46,7 @@ fn expr_start_of_keyword(keyword: Keyword) -> ExprStart
 }
 
 pub fn expr_start(kind: &TokenKind) -> ExprStart
-    ensures { result ≡ exprs.start_of kind.now }
+    ensures { result ≡ exprs.expr_start_of kind.now }
 {
     match kind {
         TokenKind::Sign(sign) => expr_start_of_sign(*sign),

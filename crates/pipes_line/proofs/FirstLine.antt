@@ -1,14 +1,10 @@
 -- The first line of a text, by the bytes at its prefix.
 use Rattle.std.proofs.Common.{◌≡◌, ℕ, suc, ◌≤◌, ◌<◌, List, [], ◌∷◌, ◌++◌, length, Bool, true, false}
 use Rattle.std.proofs.Common.{not, ◌==◌, ◌&&◌, refl, ap, ◌∙◌, arith, append_assoc, append-nil}
+use Rattle.std.proofs.lemmas.Bool.{and_parts}
 use Rattle.pipes_line.specs.Bytes.{is_no_feed, has_no_feed}
 use Rattle.pipes_line.specs.Lines.{Line, lines_of, before_lines}
 use Rattle.pipes_line.specs.Reading.{feed_of}
-
-both : (x y : Bool) → (x && y) ≡ true → (x ≡ true) × (y ≡ true)
-both true true h = (refl, refl)
-both true false h = cc
-both false y h = cc
 
 is_not : (x : Bool) → not x ≡ true → x ≡ false
 is_not true h = cc
@@ -18,14 +14,14 @@ with_feed : (line rest : List ℕ) → has_no_feed line ≡ true → lines_of (l
     { text = line; ended = true } ∷ lines_of rest
 with_feed [] rest h = refl
 with_feed (byte ∷ line) rest h =
-    let p = both (is_no_feed byte) (has_no_feed line) h in
+    let p = and_parts (is_no_feed byte) (has_no_feed line) h in
     rw (is_not (byte == 10) p.0) (ap (before_lines byte) (with_feed line rest p.1))
 
 without_feed : (byte : ℕ) (line : List ℕ) → has_no_feed (byte ∷ line) ≡ true
     → lines_of (byte ∷ line) ≡ record { text = byte ∷ line; ended = false } ∷ []
-without_feed byte [] h = rw (is_not (byte == 10) (both (is_no_feed byte) true h).0) refl
+without_feed byte [] h = rw (is_not (byte == 10) (and_parts (is_no_feed byte) true h).0) refl
 without_feed byte (next ∷ line) h =
-    let p = both (is_no_feed byte) (has_no_feed (next ∷ line)) h in
+    let p = and_parts (is_no_feed byte) (has_no_feed (next ∷ line)) h in
     rw (is_not (byte == 10) p.0) (ap (before_lines byte) (without_feed next line p.1))
 
 -- a line and its end, and then the lines after it
@@ -79,8 +75,8 @@ one_byte byte rest e = rw e (by (lines_of rest))
 pub begins_long : (byte : ℕ) (line rest : List ℕ) → has_no_feed (byte ∷ line) ≡ true
     → BeginsLong (length (byte ∷ line)) (lines_of ((byte ∷ line) ++ rest))
 begins_long byte [] rest h = one_byte byte rest (is_not (byte == 10)
-    (both (is_no_feed byte) true h).0)
+    (and_parts (is_no_feed byte) true h).0)
 begins_long byte (next ∷ line) rest h =
-    let p = both (is_no_feed byte) (has_no_feed (next ∷ line)) h in
+    let p = and_parts (is_no_feed byte) (has_no_feed (next ∷ line)) h in
     rw (is_not (byte == 10) p.0) (grown byte (length (next ∷ line))
     (lines_of ((next ∷ line) ++ rest)) (begins_long next line rest p.1))

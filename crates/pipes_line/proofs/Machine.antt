@@ -4,17 +4,13 @@ use Rattle.std.proofs.Common.{cond, Option, Some, length, refl, sym, ap, ◌∙�
 use Rattle.std.proofs.Common.{append-nil, arith}
 use Rattle.std.proofs.lemmas.Bool.{eqb-true}
 use Rattle.std.specs.List.{list_all}
+use Rattle.std.proofs.lemmas.Bool.{and_parts}
 use Rattle.csv.specs.Machine.{Read, next_record}
 use Rattle.csv.specs.Reading.{default_config}
 use Rattle.csv.specs.declared.parser.State.{State}
 use Rattle.csv.specs.declared.parser.State.TheVariants as state
 use Rattle.pipes_line.specs.Bytes.{is_inner, is_no_quote}
 use Rattle.pipes_line.specs.Parts.{begins_quoted, state_at}
-
-both : (x y : Bool) → (x && y) ≡ true → (x ≡ true) × (y ≡ true)
-both true true h = (refl, refl)
-both true false h = cc
-both false y h = cc
 
 is_not : (x : Bool) → not x ≡ true → x ≡ false
 is_not true h = cc
@@ -35,8 +31,8 @@ record Inner (byte : ℕ) : Type 0 where
 
 inner : (byte : ℕ) → is_inner byte ≡ true → Inner byte
 inner byte h =
-    let p = both (not (byte == 44) && not (byte == 13)) (not (byte == 10)) h in
-    let q = both (not (byte == 44)) (not (byte == 13)) p.0 in
+    let p = and_parts (not (byte == 44) && not (byte == 13)) (not (byte == 10)) h in
+    let q = and_parts (not (byte == 44)) (not (byte == 13)) p.0 in
     record { comma = is_not _ q.0; carriage_return = is_not _ q.1; line_feed = is_not _ p.1 }
 
 -- the bytes of a field without quotes
@@ -47,7 +43,7 @@ unfolding next_record
 bare_bytes [] rest fields field h = ap (λ (f : List ℕ). reads state.InField fields f rest)
     (sym (append-nil field))
 bare_bytes (byte ∷ xs) rest fields field h =
-    let p = both (is_inner byte) (list_all is_inner xs) h in
+    let p = and_parts (is_inner byte) (list_all is_inner xs) h in
     let i = inner byte p.0 in
     rw (i.comma, i.carriage_return, i.line_feed) (bare_bytes xs rest fields (field ++ byte ∷ []) p.1
     ∙ ap (λ (f : List ℕ). reads state.InField fields f rest)
@@ -62,7 +58,7 @@ unfolding next_record
 quoted_bytes [] rest fields field h = ap (λ (f : List ℕ). reads state.InQuoted fields f rest)
     (sym (append-nil field))
 quoted_bytes (byte ∷ xs) rest fields field h =
-    let p = both (is_no_quote byte) (list_all is_no_quote xs) h in
+    let p = and_parts (is_no_quote byte) (list_all is_no_quote xs) h in
     rw (is_not (byte == 34) p.0) (quoted_bytes xs rest fields (field ++ byte ∷ []) p.1
     ∙ ap (λ (f : List ℕ). reads state.InQuoted fields f rest)
     (append_assoc field (byte ∷ []) xs))
@@ -86,7 +82,7 @@ bare_begin : (from : ℕ) (fields : List (List ℕ)) (xs more : List ℕ)
     (xs ++ 44 ∷ more)
 bare_begin from fields [] more q h = bare_start from fields 44 more refl refl refl
 bare_begin from fields (byte ∷ xs) more q h =
-    let i = inner byte (both (is_inner byte) (list_all is_inner xs) h).0 in
+    let i = inner byte (and_parts (is_inner byte) (list_all is_inner xs) h).0 in
     bare_start from fields byte (xs ++ 44 ∷ more) q i.carriage_return i.line_feed
 
 pub bare_comma : (from : ℕ) (fields : List (List ℕ)) (xs more : List ℕ)
@@ -108,7 +104,7 @@ bare_last from fields [] some q h = by (from == 0) refl
     by true e = absurd (let no = some (eqb-true from 0 e) in omega arith)
     by false e = refl
 bare_last from fields (byte ∷ xs) some q h =
-    let i = inner byte (both (is_inner byte) (list_all is_inner xs) h).0 in
+    let i = inner byte (and_parts (is_inner byte) (list_all is_inner xs) h).0 in
     bare_start from fields byte xs q i.carriage_return i.line_feed
     ∙ ap (λ (l : List ℕ). reads state.InField fields [] l) (sym (append-nil (byte ∷ xs)))
     ∙ bare_bytes (byte ∷ xs) [] fields [] h

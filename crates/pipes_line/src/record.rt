@@ -21,8 +21,7 @@ pub enum Shape {
 }
 
 /// The fields of one line. The line itself is kept by the caller, who hands it in again: only a
-/// line whose fields
-/// are not parts of it is copied.
+/// line whose fields are not parts of it is copied.
 #[derive(Debug, Drop)]
 pub struct Record {
     pub(crate) parts: Vec<Part>,

@@ -15,8 +15,7 @@ use pipes_time::Memory;
 
 impl Record {
     // Splits a line at its commas and takes the quotes off its fields, unless a field has a quote
-    // beside or between
-    // those at its ends, or a record ends inside the line.
+    // beside or between those at its ends, or a record ends inside the line.
     pub(crate) fn split(&mut self, line: &[u8]) -> Result<bool, Memory>
         requires some { 0 < length line.now }
         requires plain { may_be_marked line.now ≡ false }

@@ -26,6 +26,14 @@ impl<T: Drop> Inlet<T> {
         self.consumer.slots() as u64
     }
 
+    /// The messages that are known to wait, without a look at the other end.
+    pub fn known_count(&self) -> u64
+        ensures answer { result ≡ ready self.now }
+        ensures bound { result ≤ MOST_ROOM }
+    {
+        self.consumer.cached_slots() as u64
+    }
+
     /// Takes the oldest message that waits, unless none does: where the inlet knows of none, it
     /// looks first.
     pub fn take(&mut self) -> Option<T>
@@ -44,8 +52,7 @@ impl<T: Drop> Inlet<T> {
     }
 
     /// Takes the oldest message that is known to wait, unless none is, without a look at the other
-    /// end. So what is taken was put in
-    /// before the last look.
+    /// end. So what is taken was put in before the last look.
     pub fn take_known(&mut self) -> Option<T>
         ensures took { IfSome result (λ message. taken self.new ≡ taken self.old ++ message ∷ []) }
         ensures oldest { IfSome result (λ message. known self.old ≡ message ∷ known self.new) }

@@ -37,8 +37,7 @@ pub fn link<T: Send + Drop>(alloc: Global, room: u32) -> Result<(Outlet<T>, Inle
 }
 
 /// How many messages wait: those put in and not yet taken. Both ends then know each place and each
-/// message of the link,
-/// so this is for a thread that holds the two.
+/// message of the link, so this is for a thread that holds the two.
 pub fn settle<T>(outlet: &mut Outlet<T>, inlet: &mut Inlet<T>) -> u64
     requires { AreEnds outlet.old inlet.old }
     ensures answer { result ≡ ready inlet.new }

@@ -6,10 +6,6 @@ pub on_err : {T E : Type 0} (r : Result T E) {P : Type 0} → P → OnErr r P
 on_err (Ok x) p = tt
 on_err (Err e) p = p
 
-pub map_err : {T E : Type 0} (r : Result T E) {P Q : Type 0} → (P → Q) → OnErr r P → OnErr r Q
-map_err (Ok x) f h = tt
-map_err (Err e) f h = f h
-
 pub at_err : {T E : Type 0} (r : Result T E) (e : E) {P : Type 0} → r ≡ Err e → OnErr r P → P
 at_err (Ok x) e is p = absurd (cc)
 at_err (Err x) e is p = p

@@ -5,6 +5,7 @@ use Rattle.std.proofs.Common.{◌++◌, length, nat_le, refl, sym, ap, ◌∙◌
 use Rattle.std.specs.List.{slice_get}
 use Rattle.std.proofs.lemmas.Bool.{leb-true}
 use Rattle.std.proofs.lemmas.List.Elements.{All-nil, All-cons}
+use Rattle.std.proofs.lemmas.Bool.{and_parts}
 use Rattle.pipes_tuple.specs.declared.value.Kind.{Kind}
 use Rattle.pipes_tuple.specs.Columns.{HasColumns}
 use Rattle.pipes_tuple.specs.Equal.{kind_eq}
@@ -22,14 +23,9 @@ use Rattle.pipes_relation.specs.Tables.{left_columns, right_columns}
 some_same : {a b : List Kind} → Some a ≡ Some b → a ≡ b
 some_same h = cc
 
-both_true : (x y : Bool) → (x && y) ≡ true → (x ≡ true) × (y ≡ true)
-both_true true true h = (refl, refl)
-both_true true false h = cc
-both_true false y h = cc
-
 alike_at : (o q : Option Kind) (b : Bool) → (is_alike o q && b) ≡ true
     → (j : Kind) × (k : Kind) × (o ≡ Some j) × (q ≡ Some k) × (b ≡ true)
-alike_at (Some j) (Some k) b h = (j, k, refl, refl, (both_true (kind_eq j k) b h).1)
+alike_at (Some j) (Some k) b h = (j, k, refl, refl, (and_parts (kind_eq j k) b h).1)
 alike_at (Some j) None b h = cc
 alike_at None q b h = cc
 
@@ -64,11 +60,11 @@ sides_fit k c s t typed =
     ∙ ap (λ (x : List Kind). join_kinds k c w.0 x) b ∙ w.4 in
     let typed_all = (only_if_is (pairs_alike s t k && is_flag (expr_kind c (s ++ t))
     && is_width (length (s ++ t))) (s ++ t) typed.schema here).0 in
-    let typed_both = (both_true (pairs_alike s t k && is_flag (expr_kind c (s ++ t)))
+    let typed_both = (and_parts (pairs_alike s t k && is_flag (expr_kind c (s ++ t)))
     (is_width (length (s ++ t))) typed_all).0 in
-    let alike = (both_true (pairs_alike s t k) (is_flag (expr_kind c (s ++ t))) typed_both).0 in
-    let wide = (both_true (pairs_alike s t k && is_flag (expr_kind c (s ++ t)))
+    let alike = (and_parts (pairs_alike s t k) (is_flag (expr_kind c (s ++ t))) typed_both).0 in
+    let wide = (and_parts (pairs_alike s t k && is_flag (expr_kind c (s ++ t)))
     (is_width (length (s ++ t))) typed_all).1 in
-    let width = (both_true (nat_le 1 (length (s ++ t))) (nat_le (length (s ++ t)) 32) wide).1 in
+    let width = (and_parts (nat_le 1 (length (s ++ t))) (nat_le (length (s ++ t)) 32) wide).1 in
     let columns = columns_there k s t alike in
     record { width = leb-true (length (s ++ t)) 32 width; left = columns.0; right = columns.1 }

@@ -15,7 +15,7 @@ use Rattle.pipes_relation.specs.declared.lists.Pair.{Pair}
 use Rattle.pipes_expr.specs.declared.expr.Expr.{Expr}
 use Rattle.pipes_relation.specs.Relations.{pairs_equal}
 use Rattle.pipes_expr.specs.ExprValue.{Row, column, no_value, passes}
-use Rattle.pipes_sweep.specs.Areas.{has_key, with_key, is_overlap}
+use Rattle.pipes_sweep.specs.Areas.{has_key, elems_with_key, is_overlap}
 use Rattle.pipes_pair.specs.Meeting.{both_of, joined_elem, joined_from, made_by}
 use Rattle.pipes_pair.specs.Sides.{HasKey, made_by_key}
 use Rattle.pipes_relation.specs.Tables.{left_columns, right_columns}
@@ -42,12 +42,12 @@ module _ (make probe : Elem → Elem → List Elem) (own_columns other_columns :
 
   -- of one element and each of the other side's
   row-by_key : (a : Elem) (rs : List Elem) → HasKey own_columns a → All (HasKey other_columns) rs
-      → flat_map (probe a) (with_key other_columns (at_columns own_columns a.tuple) rs)
+      → flat_map (probe a) (elems_with_key other_columns (at_columns own_columns a.tuple) rs)
       ≡ flat_map (make a) rs
   row-by_key a [] ha hs = refl
   row-by_key a (b ∷ rs) ha hs =
       picked (has_key other_columns (at_columns own_columns a.tuple) b) a b
-      (with_key other_columns (at_columns own_columns a.tuple) rs) rs ha
+      (elems_with_key other_columns (at_columns own_columns a.tuple) rs) rs ha
       (All-head (HasKey other_columns) b rs hs) refl
       (row-by_key a rs ha (All-tail (HasKey other_columns) b rs hs))
 

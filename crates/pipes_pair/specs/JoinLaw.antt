@@ -3,6 +3,9 @@ use Rattle.std.proofs.Common.{◌≡◌, ℕ, suc, ◌≤◌, ◌<◌, ◌+◌, 
 use Rattle.std.proofs.Common.{nat_lt, List, [], ◌∷◌, ◌++◌, map, length, refl, sym, ◌∙◌, subst, ap}
 use Rattle.std.proofs.Common.{arith, append_assoc, append-nil}
 use Rattle.std.specs.List.{All, filter, flat_map}
+use Rattle.std.proofs.lemmas.Bool.{and_parts, and_left}
+use Rattle.std.proofs.Math.Bool.{and_comm}
+use Rattle.std.proofs.Math.Nat.{min_comm}
 use Rattle.std.proofs.lemmas.Grind.{flat_map-append}
 use Rattle.std.proofs.lemmas.List.{length-append, length-map}
 use Rattle.std.proofs.lemmas.List.Elements.{filter-append, All-nil, All-cons, All-append}
@@ -28,59 +31,26 @@ use Rattle.pipes_stream.proofs.Messages.{run-append, run-push, run-rises, valid-
 use Rattle.pipes_stream.proofs.Messages.{elements-append, beat-closed, beat-ended}
 use Rattle.pipes_stream.proofs.Snapshots.{snapshot-append, snapshot-Perm, snapshot-above}
 use Rattle.pipes_stream.proofs.Ports.{floor-below, All-Perm, All-parts, open_count-append}
-use Rattle.pipes_sweep.specs.Areas.{KeptByKey, AreaHolds, until, with_key}
+use Rattle.pipes_sweep.specs.Areas.{KeptByKey, AreaHolds, until, elems_with_key}
 use Rattle.pipes_sweep.specs.Waiting.{StartsRise, due, later}
 use Rattle.pipes_sweep.specs.Sending.{sent_at}
 use Rattle.pipes_sweep.proofs.Places.{due-later, later-above}
-use Rattle.pipes_sweep.proofs.SentAt.{SentAt, sent_due, intervals}
+use Rattle.pipes_sweep.proofs.SentAt.{SentAt, sent_due}
+use Rattle.pipes_stream.proofs.Following.{arrived, arrived-fits, not_ended, intervals}
+use Rattle.pipes_sweep.proofs.TwoPorts.{moved}
 use Rattle.pipes_sweep.proofs.Kept.{length-Perm, until-open, until-closed}
 use Rattle.pipes_pair.specs.declared.join.Join.{Join}
 use Rattle.pipes_pair.specs.declared.join.Matching.{Matching}
 use Rattle.pipes_pair.specs.declared.side.Side.{Side}
 use Rattle.pipes_pair.specs.Meeting.{joined_from, made_by, AreNarrow}
-use Rattle.pipes_pair.specs.Sides.{AllNarrow, HasKey, SidesFit, Keeps, Admits, made_by_key}
+use Rattle.pipes_pair.specs.Sides.{AllNarrow, HasKey, SidesFit, KeepsElem, Admits, made_by_key}
 use Rattle.pipes_relation.specs.Tables.{left_columns, right_columns}
 use Rattle.pipes_pair.specs.ByKey.{IsByKey, made-by_key, joined-by_key_left, joined-by_key_right}
-use Rattle.pipes_pair.specs.Joins.{StandsForSides, JoinStands, JoinSends, task_of, lower_beat}
+use Rattle.pipes_pair.specs.Joins.{StandsForSides, JoinStands, JoinSends, matching_task, lower_beat}
 use Rattle.pipes_pair.specs.Joins.{both_ended}
 use Rattle.pipes_pair.specs.Made.{IsWithin, StaysWithin, joined-within, within-turned, All-made}
 use Rattle.pipes_pair.specs.Made.{news-same, until-until, narrow-fits, joined-fits, made-covered}
 use Rattle.pipes_pair.specs.Made.{snapshot-made}
-
--- a message's element
-arrived : (p : Progress) (m : Message) → CanFollow p m
-    → All (λ e. p.beat ≤ e.span.start) (elements (m ∷ []))
-arrived p (message.Elem e) w =
-    All-cons (λ (e : Elem). p.beat ≤ e.span.start) e [] w.1
-    (All-nil (λ (e : Elem). p.beat ≤ e.span.start))
-arrived p (message.Beat at) w = All-nil (λ (e : Elem). p.beat ≤ e.span.start)
-arrived p message.End w = All-nil (λ (e : Elem). p.beat ≤ e.span.start)
-
-arrived-fits : (m : Message) (kinds : List Kind) → MessageFits m kinds
-    → All (λ e. Fits e.tuple kinds) (elements (m ∷ []))
-arrived-fits (message.Elem e) kinds f =
-    All-cons (λ (e : Elem). Fits e.tuple kinds) e [] f (All-nil (λ (e : Elem). Fits e.tuple kinds))
-arrived-fits (message.Beat at) kinds f = All-nil (λ (e : Elem). Fits e.tuple kinds)
-arrived-fits message.End kinds f = All-nil (λ (e : Elem). Fits e.tuple kinds)
-
-not_ended : (p : Progress) (m : Message) → CanFollow p m → p.ended ≡ false
-not_ended p (message.Elem e) w = w.0
-not_ended p (message.Beat at) w = w.0
-not_ended p message.End w = w
-
-and-comm : (a b : Bool) → (a && b) ≡ (b && a)
-and-comm true true = refl
-and-comm true false = refl
-and-comm false true = refl
-and-comm false false = refl
-
-both-false : (a b : Bool) → a ≡ false → (a && b) ≡ false
-both-false a b h = rw h refl
-
-both-true : (a b : Bool) → (a && b) ≡ true → (a ≡ true) × (b ≡ true)
-both-true true true h = (refl, refl)
-both-true true false h = cc
-both-true false b h = cc
 
 -- the two sides change places
 turn : (make : Elem → Elem → List Elem) (ok tk : List Kind) (hold : List Elem) (own other : Side)
@@ -102,22 +72,10 @@ turn make ok tk hold own other owns others sent s =
       sent_valid = s.sent_valid;
       sent_beat =
           let a : beat sent ≡ min own.watch.beat other.watch.beat = s.sent_beat in omega arith;
-      sent_ended = s.sent_ended ∙ and-comm own.watch.ended other.watch.ended;
+      sent_ended = s.sent_ended ∙ and_comm own.watch.ended other.watch.ended;
       waits = s.waits;
       all = then s.all (Perm-loops make (elements owns) (elements others));
     }
-
--- what was sent, what goes now and what stays
-moved : (sent hold gone stays held made more : List Elem) → Perm (sent ++ hold) made
-    → Perm (gone ++ stays) held → Perm held (more ++ hold)
-    → Perm ((sent ++ gone) ++ stays) (made ++ more)
-moved sent hold gone stays held made more p q r =
-    then (Perm-equal (append_assoc sent gone stays))
-    (then (Perm-left sent q)
-    (then (Perm-left sent r)
-    (then (Perm-left sent (Perm-append_comm more hold))
-    (then (Perm-equal (sym (append_assoc sent hold more)))
-    (Perm-right more p)))))
 
 -- the elements that stay, with more
 until-cut : (b : ℕ) (es ms : List Elem) → until b (until b es ++ ms) ≡ until b (es ++ ms)
@@ -218,7 +176,7 @@ step make probe within ok tk own mid own' other other' hold held stays owns othe
     ap (λ (q : Progress). q.beat) mid_is in
     let rises : own.watch.beat ≤ mid.watch.beat = omega (arith, rose.0, rose_is) in
     let going : p.ended ≡ false =
-    s.sent_ended ∙ both-false own.watch.ended other.watch.ended (not_ended own.watch m follows) in
+    s.sent_ended ∙ and_left own.watch.ended other.watch.ended (not_ended own.watch m follows) in
     let news_fit : All (λ e. Fits e.tuple ok) news = arrived-fits m ok fits in
     let kept_fit : All (λ e. Fits e.tuple tk) (until own.watch.beat rs) =
     All-filter (λ (e : Elem). nat_lt own.watch.beat e.span.end)
@@ -263,7 +221,7 @@ step make probe within ok tk own mid own' other other' hold held stays owns othe
     sent_due p known now ended held going (omega (arith, known_is, old_beat))
     (omega (arith, old_beat, rises, now_is)) (omega arith)
     (λ h.
-    let both = both-true mid.watch.ended other.watch.ended (sym c.ended_is ∙ h) in
+    let both = and_parts mid.watch.ended other.watch.ended (sym c.ended_is ∙ h) in
     let a : beat (owns ++ m ∷ []) ≡ closed = beat-ended (owns ++ m ∷ []) own_valid
     (sym (ap (λ (x : Progress). x.ended) own_is) ∙ both.0) in
     let b : beat others ≡ closed = beat-ended others s.other_valid
@@ -354,14 +312,14 @@ by_columns make probe own other own' other' h k by =
     (subst (λ (ks : List ℕ). IsByKey make probe own ks) (sym k) by)
 
 -- the steps of the code, on either port
-pub takes_left : (old mid new : Join) (m : Message) (known : ℕ) (before now : List Message)
+pub join_takes_left : (old mid new : Join) (m : Message) (known : ℕ) (before now : List Message)
     → known ≡ lower_beat old → mid.matching ≡ old.matching → mid.failed ≡ old.failed
     → mid.right ≡ old.right
     → Admits (joined_from [] old.matching.condition true) old.left mid.left
     old.right old.hold mid.hold m
     → JoinSends mid new known before now
-    → Takes (task_of old.matching) (JoinStands old) (JoinStands new) 0 m before now
-takes_left old mid new m known before now known_is matching failed right admits sends =
+    → Takes (matching_task old.matching) (JoinStands old) (JoinStands new) 0 m before now
+join_takes_left old mid new m known before now known_is matching failed right admits sends =
     let watch : mid.right.watch ≡ old.right.watch = ap (λ (x : Side). x.watch) right in
     record {
       sent = sent_at known (lower_beat mid) (both_ended mid) mid.hold;
@@ -397,17 +355,14 @@ takes_left old mid new m known before now known_is matching failed right admits 
           }));
     }
 
-min-turn : (a b : ℕ) → min a b ≡ min b a
-min-turn a b = omega arith
-
-pub takes_right : (old mid new : Join) (m : Message) (known : ℕ) (before now : List Message)
+pub join_takes_right : (old mid new : Join) (m : Message) (known : ℕ) (before now : List Message)
     → known ≡ lower_beat old → mid.matching ≡ old.matching → mid.failed ≡ old.failed
     → mid.left ≡ old.left
     → Admits (joined_from [] old.matching.condition false) old.right mid.right
     old.left old.hold mid.hold m
     → JoinSends mid new known before now
-    → Takes (task_of old.matching) (JoinStands old) (JoinStands new) 1 m before now
-takes_right old mid new m known before now known_is matching failed left admits sends =
+    → Takes (matching_task old.matching) (JoinStands old) (JoinStands new) 1 m before now
+join_takes_right old mid new m known before now known_is matching failed left admits sends =
     let watch : mid.left.watch ≡ old.left.watch = ap (λ (x : Side). x.watch) left in
     let make : Elem → Elem → List Elem =
     joined_from old.matching.pairs old.matching.condition true in
@@ -433,11 +388,11 @@ takes_right old mid new m known before now known_is matching failed left admits 
           (joined-by_key_right old.matching.pairs old.matching.condition))
           (record {
             admits = admits;
-            known_is = known_is ∙ min-turn old.left.watch.beat old.right.watch.beat;
+            known_is = known_is ∙ min_comm old.left.watch.beat old.right.watch.beat;
             now_is = ap (λ (x : Progress). min x.beat mid.right.watch.beat) watch
-                ∙ min-turn old.left.watch.beat mid.right.watch.beat;
+                ∙ min_comm old.left.watch.beat mid.right.watch.beat;
             ended_is = ap (λ (x : Progress). x.ended && mid.right.watch.ended) watch
-                ∙ and-comm old.left.watch.ended mid.right.watch.ended;
+                ∙ and_comm old.left.watch.ended mid.right.watch.ended;
             rises = sends.rises;
             stays_is = sends.hold;
             own_watch = sends.right_watch;
@@ -453,7 +408,7 @@ takes_right old mid new m known before now known_is matching failed left admits 
 
 -- the law
 pub join_lawful : (j : Join) (taken : Lists) (sent : List Message) → JoinStands j taken sent
-    → Lawful (task_of j.matching) taken sent
+    → Lawful (matching_task j.matching) taken sent
     (length j.left.area.elems + length j.right.area.elems)
 join_lawful j taken sent stands =
     let s = stands.both in
@@ -574,7 +529,7 @@ join_new j going fit left right left_key right_key left_area right_area hold =
     }
 
 -- what the code does one after the other
-pub sends_from : (old new : Join) (known now : ℕ) (ended : Bool) (before after : List Message)
+pub join_sends_from : (old new : Join) (known now : ℕ) (ended : Bool) (before after : List Message)
     → new.matching ≡ old.matching → new.failed ≡ old.failed → new.left.watch ≡ old.left.watch
     → new.right.watch ≡ old.right.watch
     → new.left.area.columns ≡ old.left.area.columns
@@ -586,7 +541,7 @@ pub sends_from : (old new : Join) (known now : ℕ) (ended : Bool) (before after
     → now ≡ lower_beat old → ended ≡ both_ended old → StartsRise (due now old.hold)
     → new.hold ≡ later now old.hold → after ≡ before ++ sent_at known now ended old.hold
     → JoinSends old new known before after
-sends_from old new known now ended before after matching failed left right left_same right_same
+join_sends_from old new known now ended before after matching failed left right left_same right_same
     left_area right_area now_is ended_is rise hold sent =
     record {
       matching = matching;

@@ -42,8 +42,8 @@ pub record StandsForSides (make : Elem → Elem → List Elem) (own_kinds other_
   pub waits : All (λ e. beat sent < e.span.start) hold
   pub all : Perm (elements sent ++ hold) (made_by make (elements owns) (elements others))
 
-abbrev pub task_of : Matching → Task
-task_of m = join_task m.pairs m.condition m.left m.right
+abbrev pub matching_task : Matching → Task
+matching_task m = join_task m.pairs m.condition m.left m.right
 
 pub record JoinStands (j : Join) (taken : Lists) (sent : List Message) : Type 0 where
   pub going : j.failed ≡ false

@@ -22,6 +22,7 @@ use Rattle.pipes_stream.specs.Snapshot.{is_held, snapshot}
 use Rattle.pipes_stream.specs.Lists.{CanFollow, elements}
 use Rattle.pipes_stream.specs.Lawful.{IsCovered}
 use Rattle.pipes_stream.proofs.Snapshots.{snapshot-append}
+use Rattle.pipes_expr.specs.ExprValue.{Row}
 use Rattle.pipes_relation.specs.declared.lists.Pair.{Pair}
 use Rattle.pipes_expr.specs.declared.expr.Expr.{Expr}
 use Rattle.pipes_relation.specs.Relations.{meets, joined, joined_row}
@@ -206,9 +207,6 @@ snap-one pairs c l r t =
     (is_held l.span t && is_held r.span t) (both_of l r) t
     (held-both l.span.start r.span.start l.span.end r.span.end t)
     (held-none l.span.start r.span.start l.span.end r.span.end t)
-
-abbrev Row : Type 0
-Row = List Value
 
 nothing-held : (h : Bool) → ◌≡◌ {A = List Row} (cond h [] []) []
 nothing-held true = refl

@@ -11,7 +11,7 @@ use Rattle.pipes_stream.specs.Progress.{Progress}
 use Rattle.pipes_stream.specs.Lists.{CanFollow, after, elements}
 use Rattle.pipes_relation.specs.declared.lists.Pair.{Pair}
 use Rattle.pipes_relation.specs.Tables.{left_columns, right_columns}
-use Rattle.pipes_sweep.specs.Areas.{KeptByKey, AreaHolds, with_key}
+use Rattle.pipes_sweep.specs.Areas.{KeptByKey, AreaHolds, elems_with_key}
 use Rattle.pipes_pair.specs.declared.side.Side.{Side}
 use Rattle.pipes_pair.specs.Meeting.{AreNarrow}
 
@@ -35,10 +35,10 @@ abbrev pub made_by_key : (Elem → Elem → List Elem) → List ℕ → List ℕ
     → List Elem
 made_by_key make own_columns other_columns owns others =
     flat_map (λ own. flat_map (make own)
-    (with_key other_columns (at_columns own_columns own.tuple) others)) owns
+    (elems_with_key other_columns (at_columns own_columns own.tuple) others)) owns
 
 -- The message's element is kept, and what it and the other side's elements of its key make waits.
-pub record Keeps (make : Elem → Elem → List Elem) (old new other : KeptByKey)
+pub record KeepsElem (make : Elem → Elem → List Elem) (old new other : KeptByKey)
     (before now : List Elem) (m : Message) : Type 0 where
   pub columns : new.columns ≡ old.columns
   pub keeps : All (HasKey old.columns) (elements (m ∷ []))
@@ -51,11 +51,11 @@ pub record Keeps (make : Elem → Elem → List Elem) (old new other : KeptByKey
 pub record Admits (make : Elem → Elem → List Elem) (old new other : Side)
     (before now : List Elem) (m : Message) : Type 0 where
   pub follows : CanFollow old.watch m → new.watch ≡ after old.watch m
-  pub kept : Keeps make old.area new.area other.area before now m
+  pub kept : KeepsElem make old.area new.area other.area before now m
 
 -- how many elements of the other side have the key of the message's element
 abbrev pub met_count : KeptByKey → KeptByKey → Message → ℕ
 met_count own other (message.Elem e) =
-    length (with_key other.columns (at_columns own.columns e.tuple) other.elems)
+    length (elems_with_key other.columns (at_columns own.columns e.tuple) other.elems)
 met_count own other (message.Beat at) = 0
 met_count own other message.End = 0

@@ -8,7 +8,7 @@ ghost use Rattle.pipes_stream.specs.Lawful.{no_messages, Takes};
 ghost use Rattle.pipes_plan.specs.PlanKinds.{IsTyped};
 ghost use Rattle.pipes_pair.specs.Tasks.{join_task};
 ghost use Rattle.pipes_pair.specs.Joins.{JoinSends, JoinStands, both_ended, candidates, lower_beat};
-ghost use Rattle.pipes_pair.specs.Joins.{task_of};
+ghost use Rattle.pipes_pair.specs.Joins.{matching_task};
 
 use crate::columns::{left_columns, right_columns};
 use crate::side::{Side, admit};
@@ -127,7 +127,7 @@ impl Join {
         out: &mut Vec<Message>,
         steps: &mut Steps<L>,
     ) -> Result<(), Memory>
-        ensures takes { OnOk result (Takes (task_of self.old.matching) (JoinStands self.old)
+        ensures takes { OnOk result (Takes (matching_task self.old.matching) (JoinStands self.old)
             (JoinStands self.new) 0 message out.old.items out.new.items) }
         ensures goes_on { OnOk result (self.new.failed ≡ self.old.failed) }
         ensures same { self.new.matching ≡ self.old.matching }
@@ -154,7 +154,7 @@ impl Join {
         out: &mut Vec<Message>,
         steps: &mut Steps<L>,
     ) -> Result<(), Memory>
-        ensures takes { OnOk result (Takes (task_of self.old.matching) (JoinStands self.old)
+        ensures takes { OnOk result (Takes (matching_task self.old.matching) (JoinStands self.old)
             (JoinStands self.new) 1 message out.old.items out.new.items) }
         ensures goes_on { OnOk result (self.new.failed ≡ self.old.failed) }
         ensures same { self.new.matching ≡ self.old.matching }
@@ -183,7 +183,7 @@ impl Join {
         steps: &mut Steps<L>,
     ) -> Result<(), Memory>
         requires { port < 2 }
-        ensures takes { OnOk result (Takes (task_of self.old.matching) (JoinStands self.old)
+        ensures takes { OnOk result (Takes (matching_task self.old.matching) (JoinStands self.old)
             (JoinStands self.new) port message out.old.items out.new.items) }
         ensures goes_on { OnOk result (self.new.failed ≡ self.old.failed) }
         ensures same { self.new.matching ≡ self.old.matching }
@@ -208,7 +208,7 @@ impl Join {
     ) -> Result<(), Memory>
         requires { port < 2 }
         ensures same { self.new.matching ≡ self.old.matching }
-        ensures takes { OnOk result (Takes (task_of self.old.matching) (JoinStands self.old)
+        ensures takes { OnOk result (Takes (matching_task self.old.matching) (JoinStands self.old)
             (JoinStands self.new) port message out.old.items out.new.items) }
         ensures memory { OnErr result (out.new.items ≡ out.old.items) }
         ensures fails { OnErr result (self.new.failed ≡ true) }
@@ -243,7 +243,7 @@ impl Join {
         requires parts { blank.parts ≡ L.parts }
         requires some { 0 < blank.parts }
         ensures same { self.new.matching ≡ self.old.matching }
-        ensures takes { OnOk result (Takes (task_of self.old.matching) (JoinStands self.old)
+        ensures takes { OnOk result (Takes (matching_task self.old.matching) (JoinStands self.old)
             (JoinStands self.new) port message out.old.items out.new.items) }
         ensures memory { OnErr result (out.new.items ≡ out.old.items) }
         ensures fails { OnErr result (self.new.failed ≡ true) }
@@ -257,10 +257,10 @@ impl Join {
 
 impl Operator for Join {
     ghost use Rattle.std.specs.Prelude.{length, ◌+◌};
-    ghost use Rattle.pipes_pair.specs.Joins.{JoinStands, task_of};
+    ghost use Rattle.pipes_pair.specs.Joins.{JoinStands, matching_task};
     ghost use Rattle.pipes_pair.specs.JoinLaw.{join_lawful};
 
-    ghost task = { λ j. task_of j.matching };
+    ghost task = { λ j. matching_task j.matching };
 
     ghost stands = { JoinStands };
 

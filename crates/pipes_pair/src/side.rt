@@ -2,7 +2,7 @@
 ghost use Rattle.std.specs.Prelude.{◌≡◌, ◌+◌, ◌≤◌, [], OnOk};
 ghost use Rattle.pipes_stream.specs.declared.message.Message.TheVariants as messages;
 ghost use Rattle.pipes_pair.specs.Meeting.{joined_from};
-ghost use Rattle.pipes_pair.specs.Sides.{Admits, Keeps, met_count};
+ghost use Rattle.pipes_pair.specs.Sides.{Admits, KeepsElem, met_count};
 
 use crate::meeting::put_all;
 use pipes_plan::Expr;
@@ -29,7 +29,7 @@ fn keep<L: Ledger>(
     hold: &mut Hold,
     steps: &mut Steps<L>,
 ) -> Result<(), Memory>
-    ensures keeps { OnOk result (Keeps (joined_from [] condition.now is_left) own.old own.new
+    ensures keeps { OnOk result (KeepsElem (joined_from [] condition.now is_left) own.old own.new
         other.now hold.old hold.new (messages.Elem elem)) }
     ensures steps { steps.new ≤ steps.old + met_count own.old other.now (messages.Elem elem) }
 {
@@ -54,7 +54,7 @@ fn keep_any<L: Ledger>(
     hold: &mut Hold,
     steps: &mut Steps<L>,
 ) -> Result<(), Memory>
-    ensures keeps { OnOk result (Keeps (joined_from [] condition.now is_left) own.old own.new
+    ensures keeps { OnOk result (KeepsElem (joined_from [] condition.now is_left) own.old own.new
         other.now hold.old hold.new message) }
     ensures steps { steps.new ≤ steps.old + met_count own.old other.now message }
 {

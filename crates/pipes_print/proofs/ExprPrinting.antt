@@ -59,7 +59,7 @@ spaced_word : (k : TokenKind) (bytes : List ℕ) → Writes (k ∷ []) bytes
 spaced_word k bytes w = write_space_before Free (k ∷ []) (bytes ++ (32 ∷ []))
     (write_space_after (k ∷ []) bytes w)
 
-abbrev kind_of : Op → TokenKind
+abbrev pub kind_of : Op → TokenKind
 kind_of op.Add = Sign sign.Plus
 kind_of op.Sub = Sign sign.Minus
 kind_of op.Mul = Sign sign.Star
@@ -69,7 +69,7 @@ kind_of op.Le = Sign sign.AtMost
 kind_of op.And = Keyword keyword.And
 kind_of op.Or = Keyword keyword.Or
 
-op_again : (o : Op) → op_of (kind_of o) ≡ Some o
+pub op_again : (o : Op) → op_of (kind_of o) ≡ Some o
 op_again op.Add = refl
 op_again op.Sub = refl
 op_again op.Mul = refl

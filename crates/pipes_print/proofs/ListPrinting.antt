@@ -18,7 +18,7 @@ use Rattle.pipes_relation.specs.declared.lists.Pair.{Pair}
 use Rattle.pipes_relation.specs.declared.lists.Agg.{Agg}
 use Rattle.pipes_relation.specs.declared.lists.Agg.TheVariants as agg
 use Rattle.pipes_grammar.specs.Grammar.{AreEntries, last, more, IsFilled, entries, IsList, empty}
-use Rattle.pipes_grammar.specs.Grammar.{filled, IsColumn, IsPair, IsAgg}
+use Rattle.pipes_grammar.specs.Grammar.{filled, IsColumnPlace, IsPair, IsAgg}
 use Rattle.pipes_grammar.specs.Grammar as g
 use Rattle.pipes_print.specs.ExprText.{entries_text, list_text}
 use Rattle.pipes_print.specs.PlanText.{pair_text, agg_text}
@@ -113,11 +113,11 @@ module _ (A : Type 0) (Is : A → List TokenKind → Type 0) (text : A → List 
 
 -- ---- entries
 
-pub column_prints : (i : ℕ) (ks : List TokenKind) → IsColumn i ks → AreSpelled ks
-    → PrintsAs IsColumn decimal i
+pub column_prints : (i : ℕ) (ks : List TokenKind) → IsColumnPlace i ks → AreSpelled ks
+    → PrintsAs IsColumnPlace decimal i
 column_prints _ _ (g.column i h) s = record {
   kinds = Number i ∷ [];
-  is = g.IsColumn.column i h;
+  is = g.IsColumnPlace.column i h;
   writes = write_number i (omega arith);
 }
 

@@ -22,7 +22,8 @@ use Rattle.pipes_relation.specs.declared.lists.Agg.{Agg}
 use Rattle.pipes_plan.specs.declared.plan.Plan.{Plan, the_lemmas}
 use Rattle.pipes_plan.specs.declared.plan.Plan.TheVariants as plan
 use Rattle.pipes_grammar.specs.Grammar as g
-use Rattle.pipes_grammar.specs.Grammar.{IsExpr, IsFilled, IsList, IsColumn, IsPair, IsAgg, IsPlan}
+use Rattle.pipes_grammar.specs.Grammar.{IsExpr, IsFilled, IsList, IsColumnPlace, IsPair, IsAgg}
+use Rattle.pipes_grammar.specs.Grammar.{IsPlan}
 use Rattle.pipes_grammar.specs.Grammar.{source_named}
 use Rattle.pipes_print.specs.ExprText.{expr_text, list_text}
 use Rattle.pipes_print.specs.PlanText.{pair_text, agg_text, source_text, plan_text}
@@ -187,7 +188,7 @@ module _ (names : List (List ℕ)) where
       let first = spelled_parts cs (Sign Comma ∷ (gs ++ (Sign Comma ∷ (ks ++ (Sign Close ∷ [])))))
       s.1.1 in
       let second = spelled_parts gs (Sign Comma ∷ (ks ++ (Sign Close ∷ []))) first.1.1 in
-      let o = list_print ℕ IsColumn decimal column_prints columns cs h first.0 in
+      let o = list_print ℕ IsColumnPlace decimal column_prints columns cs h first.0 in
       let p = list_print Agg IsAgg agg_text agg_prints aggs gs i second.0 in
       let q = plan_prints a ks j (spelled_parts ks (Sign Close ∷ []) second.1.1).0 in
       let ga = before_comma p.kinds (q.kinds ++ (Sign Close ∷ [])) (list_text agg_text aggs)

@@ -1,3 +1,4 @@
 pub mod ExprText
 pub mod PlanText
+pub mod Writable
 pub mod Printed

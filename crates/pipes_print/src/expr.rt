@@ -4,6 +4,7 @@ ghost use Rattle.pipes_token.specs.declared.token.TokenKind.{TokenKind as AKind}
 ghost use Rattle.pipes_grammar.specs.Limits.{IsExprText, AreExprsText};
 ghost use Rattle.pipes_print.specs.ExprText.{op_text, sides_text, expr_text, list_text};
 ghost use Rattle.pipes_print.specs.Printed.{AreSpelled, ExprPrinted, ExprsPrinted};
+ghost use Rattle.pipes_print.specs.Writable.{IsWritableExpr, AreWritableExprs};
 
 use crate::list::{Entry, push_list};
 use crate::piece::{push, push_number, push_value};
@@ -11,11 +12,15 @@ use pipes_plan::{Expr, Op};
 use pipes_time::Memory;
 
 /// Appends the text of the expression. After out of memory `out` is as before.
+#[tactic(auto, using(crate::proofs::WritablePlans::expr_printed, crate::proofs::WritablePlans::expr_writable))]
 pub fn print_expr(expr: &Expr, out: &mut Vec<u8>) -> Result<(), Memory>
     ensures ok { OnOk result (out.new.items ≡ out.old.items ++ expr_text expr.now) }
     ensures err { OnErr result (out.new.items ≡ out.old.items) }
-    ensures read_back { (kinds : List AKind) → IsExprText expr.now kinds → AreSpelled kinds
-        → ExprPrinted expr.now }
+    // What is printed of a writable expression is read back, wherever it is written.
+    ensures read_back { IsWritableExpr expr.now → ExprPrinted expr.now }
+    // An expression that some text has is writable.
+    ensures writable { (kinds : List AKind) → IsExprText expr.now kinds → AreSpelled kinds
+        → IsWritableExpr expr.now }
 {
     let mut text = Vec::new(*out.allocator());
     push_expr(expr, &mut text)?;
@@ -24,11 +29,15 @@ pub fn print_expr(expr: &Expr, out: &mut Vec<u8>) -> Result<(), Memory>
 
 /// Appends the text of the list of expressions, in brackets. After out of memory `out` is as
 /// before.
+#[tactic(auto, using(crate::proofs::WritablePlans::exprs_printed, crate::proofs::WritablePlans::exprs_writable))]
 pub fn print_exprs(exprs: &[Expr], out: &mut Vec<u8>) -> Result<(), Memory>
     ensures ok { OnOk result (out.new.items ≡ out.old.items ++ list_text expr_text exprs.now) }
     ensures err { OnErr result (out.new.items ≡ out.old.items) }
-    ensures read_back { (kinds : List AKind) → AreExprsText exprs.now kinds → AreSpelled kinds
-        → ExprsPrinted exprs.now }
+    // What is printed of writable expressions is read back, wherever it is written.
+    ensures read_back { AreWritableExprs exprs.now → ExprsPrinted exprs.now }
+    // Expressions that some text has are writable.
+    ensures writable { (kinds : List AKind) → AreExprsText exprs.now kinds → AreSpelled kinds
+        → AreWritableExprs exprs.now }
 {
     let mut text = Vec::new(*out.allocator());
     push_list(exprs, &mut text)?;

@@ -3,8 +3,10 @@
 
 mod expr;
 mod list;
+mod literals;
 mod piece;
 mod plan;
 
 pub use expr::{print_expr, print_exprs};
+pub use literals::look_at_literals;
 pub use plan::print_plan;

@@ -1,10 +1,11 @@
 // Plans.
-ghost use Rattle.std.specs.Prelude.{◌≡◌, ◌++◌, List, OnOk, OnErr, codes, map};
+ghost use Rattle.std.specs.Prelude.{◌≡◌, ◌++◌, List, OnOk, OnErr, codes, length, map};
 ghost use Rattle.pipes_token.specs.declared.token.TokenKind.{TokenKind as AKind};
 ghost use Rattle.pipes_grammar.specs.Limits.{IsPlanText};
 ghost use Rattle.pipes_print.specs.ExprText.{expr_text};
 ghost use Rattle.pipes_print.specs.PlanText.{source_text, plan_text};
 ghost use Rattle.pipes_print.specs.Printed.{AreSpelled, PlanPrinted};
+ghost use Rattle.pipes_print.specs.Writable.{AreSourceNames, IsWritablePlan, IsCheckedPlan};
 
 use crate::expr::push_expr;
 use crate::list::push_list;
@@ -15,11 +16,19 @@ use pipes_tuple::Text;
 
 /// Appends the text of the plan over sources with these names, in order. After out of memory `out`
 /// is as before.
+#[tactic(auto, using(crate::proofs::WritablePlans::plan_printed, crate::proofs::WritablePlans::plan_writable))]
 pub fn print_plan(names: &[Text], plan: &Plan, out: &mut Vec<u8>) -> Result<(), Memory>
     ensures ok { OnOk result (out.new.items ≡ out.old.items ++ plan_text names.now plan.now) }
     ensures err { OnErr result (out.new.items ≡ out.old.items) }
-    ensures read_back { (kinds : List AKind) → IsPlanText names.now plan.now kinds
-        → AreSpelled kinds → PlanPrinted names.now plan.now }
+    // What is printed of a writable plan is read back, wherever it is written.
+    ensures read_back { AreSourceNames names.now → IsWritablePlan (length names.now) plan.now
+        → PlanPrinted names.now plan.now }
+    // A plan that some text has is writable.
+    ensures writable { (kinds : List AKind) → IsPlanText names.now plan.now kinds
+        → AreSpelled kinds → IsWritablePlan (length names.now) plan.now }
+    // A plan that checks over so many sources is writable.
+    ensures checked { IsCheckedPlan (length names.now) plan.now
+        → IsWritablePlan (length names.now) plan.now }
 {
     let mut text = Vec::new(*out.allocator());
     push_plan(names, plan, &mut text)?;

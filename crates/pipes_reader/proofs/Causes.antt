@@ -9,12 +9,13 @@ use Rattle.pipes_token.specs.declared.token.TokenKind.TheVariants.{Text, Long, C
 use Rattle.pipes_token.specs.declared.token.Token.{Token}
 use Rattle.pipes_reader.specs.Reading.{kinds_of, refused_by}
 use Rattle.pipes_reader.specs.Sentences.{Grammar, Begins}
-use Rattle.pipes_reader.specs.Causes.{AreAlike, itself, two_numbers, two_names, IsWhy, own, broken}
+use Rattle.pipes_reader.specs.Causes.{AreAlike, itself, two_numbers, two_names, IsTextWhy, own}
+use Rattle.pipes_reader.specs.Causes.{broken}
 use Rattle.pipes_reader.specs.Causes.{other_number, other_word, over_limit, not_allowed}
 
 pub why_map : (G G2 : TokenKind → Type 0) (F F2 : Type 0) (S S2 : TokenKind → Type 0)
     → ((k : TokenKind) → G k → G2 k) → (F → F2) → (k : TokenKind) (w : TextWhy)
-    → ((j : TokenKind) → AreAlike k j → S j → S2 j) → IsWhy G F S k w → IsWhy G2 F2 S2 k w
+    → ((j : TokenKind) → AreAlike k j → S j → S2 j) → IsTextWhy G F S k w → IsTextWhy G2 F2 S2 k w
 why_map G G2 F F2 S S2 g f _ _ s (own k w e) = own k w e
 why_map G G2 F F2 S S2 g f _ _ s (broken r content goes) = broken r content (g (Text content) goes)
 why_map G G2 F F2 S S2 g f _ _ s (other_number n m goes) = other_number n m (g (Number m) goes)
@@ -33,7 +34,7 @@ Refuses read ts = (r : Refusal) × (read ts ≡ Err r)
 abbrev pub CauseOf : {A B : Type 0} → Grammar A → (List Token → Result B Refusal) → List Token
     → TokenKind → TextWhy → Type 0
 CauseOf Is read before =
-    IsWhy (λ k. Begins Is (kinds_of before ++ (k ∷ [])))
+    IsTextWhy (λ k. Begins Is (kinds_of before ++ (k ∷ [])))
     ((other : List Token) → Refuses read (before ++ other))
     (λ k. (u : Token) (other : List Token) → u.kind ≡ k → Refuses read (before ++ (u ∷ other)))
 
@@ -48,7 +49,7 @@ NoValue value k = value k ≡ None
 
 -- why a token without a value is refused
 abbrev pub LeafWhy : {A : Type 0} → (TokenKind → Option A) → TokenKind → TextWhy → Type 0
-LeafWhy value = IsWhy (HasValue value) ⊥ (NoValue value)
+LeafWhy value = IsTextWhy (HasValue value) ⊥ (NoValue value)
 
 -- where a token has no value, none like it has
 abbrev pub IsSteady : {A : Type 0} → (TokenKind → Option A) → Type 0
@@ -63,7 +64,7 @@ steady_by value of_number of_name _ _ (two_names v w) e = of_name v w e
 
 -- a token that the grammar doesn't allow, nor any like it
 pub plain_why : (G : TokenKind → Type 0) (F : Type 0) (S : TokenKind → Type 0) (k : TokenKind)
-    (at : ℕ) → ((j : TokenKind) → AreAlike k j → S j) → IsWhy G F S k (refused_by k at).why
+    (at : ℕ) → ((j : TokenKind) → AreAlike k j → S j) → IsTextWhy G F S k (refused_by k at).why
 plain_why G F S Long at s = own Long _ refl
 plain_why G F S Byte at s = own Byte _ refl
 plain_why G F S End at s = own End _ refl

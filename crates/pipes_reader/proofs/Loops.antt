@@ -5,7 +5,8 @@ use Rattle.pipes_token.specs.declared.refusal.Refusal.{Refusal}
 use Rattle.pipes_token.specs.declared.token.Token.{Token}
 use Rattle.pipes_reader.specs.declared.fault.ParseFault.{ParseFault}
 use Rattle.pipes_reader.specs.declared.fault.ParseFault.TheVariants.{Refused, Memory}
-use Rattle.pipes_reader.specs.Reading.{Reads, ◌>>=◌, Fails, Takes, followed, many_within}
+use Rattle.pipes_time.specs.Results.{◌>>=◌}
+use Rattle.pipes_reader.specs.Reading.{Reads, Fails, GivesFrom, followed, many_within}
 
 abbrev stepped : {S : Type 0} → S → Bool → List Token → Result ((S × Bool) × List Token) Refusal
 stepped s more rest = Ok ((s, more), rest)

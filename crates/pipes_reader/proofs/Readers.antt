@@ -5,7 +5,8 @@ use Rattle.std.proofs.lemmas.List.{append-nil}
 use Rattle.pipes_token.specs.declared.refusal.Refusal.{Refusal}
 use Rattle.pipes_token.specs.declared.token.TokenKind.{TokenKind}
 use Rattle.pipes_token.specs.declared.token.Token.{Token}
-use Rattle.pipes_reader.specs.Reading.{Reads, ◌>>=◌, kinds_of, in_turn}
+use Rattle.pipes_time.specs.Results.{◌>>=◌}
+use Rattle.pipes_reader.specs.Reading.{Reads, kinds_of, in_turn}
 use Rattle.pipes_reader.specs.Sentences.{Grammar, GrammarBefore, Anywhere, Begins, next_of, ahead}
 use Rattle.pipes_reader.specs.Sentences.{Prefix, has_last}
 use Rattle.pipes_reader.specs.Causes.{AreAlike}

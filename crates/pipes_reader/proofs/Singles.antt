@@ -13,7 +13,7 @@ use Rattle.pipes_reader.specs.Reading.{too_many, done_with, taken_or, take_by, i
 use Rattle.pipes_reader.specs.Reading.{optional, tail_of, with_tail, barred, unless}
 use Rattle.pipes_reader.specs.Sentences.{Grammar, GrammarBefore, Anywhere, Begins, next_of, ahead}
 use Rattle.pipes_reader.specs.Sentences.{Prefix, has_last}
-use Rattle.pipes_reader.specs.Causes.{AreAlike, IsLimit, IsWhy, own, over_limit}
+use Rattle.pipes_reader.specs.Causes.{AreAlike, IsLimit, IsTextWhy, own, over_limit}
 use Rattle.pipes_reader.specs.Places.{Refusals, AtToken, there, inside}
 use Rattle.pipes_reader.proofs.Causes.{why_map, Refuses, CauseOf, HasValue, NoValue, LeafWhy}
 use Rattle.pipes_reader.proofs.Causes.{IsSteady, steady_why}
@@ -543,7 +543,7 @@ failed r = Err r
 pub reads_never : {A : Type 0} (Is : Grammar A) → Begins Is []
     → ((x : A) (ks : List TokenKind) → Is x ks → has_last ks ≡ false)
     → (refused : TokenKind → ℕ → Refusal) → ((k : TokenKind) (at : ℕ) → (refused k at).at ≡ at)
-    → ((k : TokenKind) (at : ℕ) → IsWhy (λ j. Begins Is (j ∷ [])) (Unit {0}) (λ j. Unit {0}) k
+    → ((k : TokenKind) (at : ℕ) → IsTextWhy (λ j. Begins Is (j ∷ [])) (Unit {0}) (λ j. Unit {0}) k
     (refused k at).why)
     → (read : Reads A) → read [] ≡ Err run_out
     → ((t : Token) (ts : List Token) → read (t ∷ ts) ≡ Err (refused t.kind t.at))
@@ -602,7 +602,7 @@ many_place End at = refl
 many_place _ at = refl
 
 pub limit_causes : (G S : TokenKind → Type 0) (r : Refusal) → IsLimit r.why → (k : TokenKind)
-    (at : ℕ) → IsWhy G (Unit {0}) S k (refused_as r k at).why
+    (at : ℕ) → IsTextWhy G (Unit {0}) S k (refused_as r k at).why
 limit_causes G S r is Byte at = own Byte _ refl
 limit_causes G S r is End at = own End _ refl
 limit_causes G S r is k at = over_limit k r.why is (inr tt)

@@ -13,7 +13,7 @@ use Rattle.pipes_reader.specs.Causes.{AreAlike, itself, two_numbers, two_names, 
 use Rattle.pipes_reader.specs.Causes.{other_number, other_word}
 use Rattle.pipes_reader.specs.Places.{AtToken}
 use Rattle.pipes_reader.specs.Names.{is_taken}
-use Rattle.pipes_reader.specs.Taking.{number_between, number_refused, take_number, text_of}
+use Rattle.pipes_reader.specs.Taking.{number_between, number_refused, take_number, string_content}
 use Rattle.pipes_reader.specs.Taking.{text_refused, take_text, unless_taken, name_refused}
 use Rattle.pipes_reader.specs.Taking.{take_name}
 use Rattle.pipes_reader.proofs.Causes.{HasValue, NoValue, LeafWhy, IsSteady, steady_by, plain_why}
@@ -118,16 +118,16 @@ reads_number low high le =
 
 -- ---- strings
 
-pub text_is : (k : TokenKind) (t : List ℕ) → text_of k ≡ Some t → k ≡ Text t
+pub text_is : (k : TokenKind) (t : List ℕ) → string_content k ≡ Some t → k ≡ Text t
 text_is (Text s) t e =
     let same : s ≡ t = cc in
     ap (λ (z : List ℕ). Text z) same
 text_is _ t e = absurd cc
 
-text_not_last : NotLast text_of
+text_not_last : NotLast string_content
 text_not_last k t e = ap (λ (z : TokenKind). is_last z) (text_is k t e)
 
-text_placed : Placed text_of text_refused
+text_placed : Placed string_content text_refused
 text_placed (Cut r) at is = inr refl
 text_placed (Sign s) at is = inl refl
 text_placed (Keyword k) at is = inl refl
@@ -138,14 +138,15 @@ text_placed Long at is = inl refl
 text_placed Byte at is = inl refl
 text_placed End at is = inl refl
 
-pub some_text : Begins (One text_of) []
+pub some_text : Begins (One string_content) []
 some_text = ([], Text [] ∷ [], one (Text []) [] refl)
 
-plain : (k : TokenKind) (at : ℕ) → text_of k ≡ None → LeafWhy text_of k (refused_by k at).why
+plain : (k : TokenKind) (at : ℕ) → string_content k ≡ None → LeafWhy string_content k
+    (refused_by k at).why
 plain k at none =
-    steady_why text_of (steady_by text_of (λ n m e. refl) (λ v w e. refl)) k at none
+    steady_why string_content (steady_by string_content (λ n m e. refl) (λ v w e. refl)) k at none
 
-text_causes : HasCauses text_of text_refused
+text_causes : HasCauses string_content text_refused
 text_causes (Cut r) at is = broken r [] ([], refl)
 text_causes (Text t) at is = absurd cc
 text_causes (Sign x) at is = plain (Sign x) at is
@@ -156,9 +157,9 @@ text_causes Long at is = plain Long at is
 text_causes Byte at is = plain Byte at is
 text_causes End at is = plain End at is
 
-pub reads_text : IsReader (One text_of) (Anywhere (One text_of)) AtToken take_text
+pub reads_text : IsReader (One string_content) (Anywhere (One string_content)) AtToken take_text
 unfolding take_text
-reads_text = reads_one text_of text_refused some_text text_not_last text_placed text_causes
+reads_text = reads_one string_content text_refused some_text text_not_last text_placed text_causes
 
 -- ---- names
 

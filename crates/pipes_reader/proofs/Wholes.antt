@@ -8,12 +8,13 @@ use Rattle.pipes_token.specs.declared.token.TokenKind.{TokenKind}
 use Rattle.pipes_token.specs.declared.token.TokenKind.TheVariants.{Sign, Keyword, Name, Number}
 use Rattle.pipes_token.specs.declared.token.TokenKind.TheVariants.{Text, Long, Cut, Byte, End}
 use Rattle.pipes_token.specs.declared.token.Token.{Token}
-use Rattle.pipes_token.specs.Places.{known}
+use Rattle.pipes_token.specs.Places.{located}
 use Rattle.pipes_token.specs.Spelling.{Spells}
 use Rattle.pipes_token.specs.Tokens.{Tokens, is_last, Stops}
 use Rattle.pipes_token.specs.Tokens as lexed
 use Rattle.pipes_token.proofs.OnlyTokens.{same_tokens}
-use Rattle.pipes_reader.specs.Reading.{Reads, ◌>>=◌, kinds_of, refused_by, at_end, then_end, whole}
+use Rattle.pipes_time.specs.Results.{◌>>=◌}
+use Rattle.pipes_reader.specs.Reading.{Reads, kinds_of, refused_by, at_end, then_end, whole}
 use Rattle.pipes_reader.specs.Sentences.{Grammar, GrammarBefore, Begins, next_of, has_last, Whole}
 use Rattle.pipes_reader.specs.Causes.{AreAlike, itself, two_numbers, two_names}
 use Rattle.pipes_reader.specs.Places.{Refusals, AtToken, there}
@@ -341,7 +342,7 @@ module _ {A : Type 0} (Is Within : Grammar A) (In : GrammarBefore A) (Where Whol
     -- a text is refused at the first token with which no text goes on
     pub whole_refused : (bytes : List ℕ) (ts : List Token) (r : Refusal) → length bytes ≤ 1048576
         → Tokens (length bytes) bytes ts → whole read ts ≡ Err r
-        → IsRefused Is Within WholeWhere read bytes (known bytes r)
+        → IsRefused Is Within WholeWhere read bytes (located bytes r)
     whole_refused bytes ts r short are e =
         texts.tokens ts r short are
         (first_place (Whole Within) (whole read) barred (Whole Is) WholeWhere WholeWhere
@@ -358,7 +359,7 @@ module _ {A : Type 0} (Is Within : Grammar A) (In : GrammarBefore A) (Where Whol
 pub known_refused : {A : Type 0} (read : Reads A) (bytes : List ℕ) (ts us : List Token)
     (r : Refusal)
     (line : TextRefusal) → length bytes ≤ 1048576 → Tokens (length bytes) bytes us → ts ≡ us
-    → whole read ts ≡ Err r → line ≡ known bytes r → IsRefusedBy read bytes line
+    → whole read ts ≡ Err r → line ≡ located bytes r → IsRefusedBy read bytes line
 known_refused read bytes ts us r line short are same e f =
     let by = by_tokens us r (record { short = short; are = are })
     (subst (λ (z : List Token). whole read z ≡ Err r) same e) in

@@ -37,28 +37,29 @@ IsLimit _ = ⊥
 -- Why a token of a kind is refused. GoesOn: the grammar without limits goes on with such a token.
 -- IsFull: nothing within the limits goes on. IsStuck: nothing within them goes on with such a
 -- token.
-pub data IsWhy (GoesOn : TokenKind → Type 0) (IsFull : Type 0) (IsStuck : TokenKind → Type 0)
+pub data IsTextWhy (GoesOn : TokenKind → Type 0) (IsFull : Type 0) (IsStuck : TokenKind → Type 0)
     : TokenKind → TextWhy → Type 0 where
   -- it is the end of the text, a byte that begins no token, or too long
-  own : (k : TokenKind) (w : TextWhy) → own_why k ≡ Some w → IsWhy GoesOn IsFull IsStuck k w
+  own : (k : TokenKind) (w : TextWhy) → own_why k ≡ Some w → IsTextWhy GoesOn IsFull IsStuck k w
   -- a string that breaks, where a string goes on
   broken : (r : Refusal) (content : List ℕ) → GoesOn (Text content)
-      → IsWhy GoesOn IsFull IsStuck (Cut r) r.why
+      → IsTextWhy GoesOn IsFull IsStuck (Cut r) r.why
   -- a number, where another number goes on
-  other_number : (n m : ℕ) → GoesOn (Number m) → IsWhy GoesOn IsFull IsStuck (Number n) why.Range
+  other_number : (n m : ℕ) → GoesOn (Number m) → IsTextWhy GoesOn IsFull IsStuck
+      (Number n) why.Range
   -- a word, where another word goes on
   other_word : (k : TokenKind) (w : List ℕ) → IsWord k → GoesOn (Name w)
-      → IsWhy GoesOn IsFull IsStuck k why.Name
+      → IsTextWhy GoesOn IsFull IsStuck k why.Name
   -- without the limits it goes on with this token, or with them nothing goes on
   over_limit : (k : TokenKind) (w : TextWhy) → IsLimit w → GoesOn k ⊎ IsFull
-      → IsWhy GoesOn IsFull IsStuck k w
+      → IsTextWhy GoesOn IsFull IsStuck k w
   -- nothing goes on with a token like this one
   not_allowed : (k : TokenKind) → own_why k ≡ None → ((j : TokenKind) → AreAlike k j → IsStuck j)
-      → IsWhy GoesOn IsFull IsStuck k why.Token
+      → IsTextWhy GoesOn IsFull IsStuck k why.Token
 
 -- The same, after tokens of these kinds, in a grammar without limits and within them.
 abbrev pub IsCause : {A : Type 0} → Grammar A → Grammar A → List TokenKind → TokenKind → TextWhy
     → Type 0
 IsCause Is Within before =
-    IsWhy (λ k. Begins Is (before ++ (k ∷ []))) (¬ (Begins Within before))
+    IsTextWhy (λ k. Begins Is (before ++ (k ∷ []))) (¬ (Begins Within before))
     (λ k. ¬ (Begins Within (before ++ (k ∷ []))))

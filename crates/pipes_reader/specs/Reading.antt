@@ -1,6 +1,7 @@
 -- Readers of tokens: a value and the tokens that are left, or the first refusal.
 use Rattle.std.specs.Prelude.{◌≡◌, ℕ, zero, suc, Bool, true, false, List, [], ◌∷◌, ◌++◌, map}
 use Rattle.std.specs.Prelude.{Option, Some, None, Result, Ok, Err}
+use Rattle.pipes_time.specs.Results.{◌>>=◌}
 use Rattle.pipes_token.specs.declared.refusal.TextWhy.{TextWhy}
 use Rattle.pipes_token.specs.declared.refusal.TextWhy.TheVariants as why
 use Rattle.pipes_token.specs.declared.refusal.Refusal.{Refusal}
@@ -13,11 +14,6 @@ use Rattle.pipes_reader.specs.declared.fault.ParseFault.TheVariants.{Refused, Me
 abbrev pub Reads : Type 0 → Type 0
 Reads A = List Token → Result (A × List Token) Refusal
 
-infixl 10 ◌>>=◌
-abbrev pub ◌>>=◌ : {A B : Type 0} → Result A Refusal → (A → Result B Refusal) → Result B Refusal
-(Ok x) >>= f = f x
-(Err r) >>= f = Err r
-
 -- ---- what a function of the code returned, seen by view, is what is read, unless memory ran out
 
 abbrev pub Fails : {Y : Type 0} → ParseFault → Result Y Refusal → Type 0
@@ -29,10 +25,10 @@ Gives view (Ok x) read = read ≡ Ok (view x)
 Gives view (Err fault) read = Fails fault read
 
 -- the same of a function that goes on from some tokens to others
-abbrev pub Takes : {X Y : Type 0} → (X → Y) → Reads Y → List Token → List Token
+abbrev pub GivesFrom : {X Y : Type 0} → (X → Y) → Reads Y → List Token → List Token
     → Result X ParseFault → Type 0
-Takes view read ts rest (Ok x) = read ts ≡ Ok (view x, rest)
-Takes view read ts rest (Err fault) = Fails fault (read ts)
+GivesFrom view read ts rest (Ok x) = read ts ≡ Ok (view x, rest)
+GivesFrom view read ts rest (Err fault) = Fails fault (read ts)
 
 -- ---- tokens
 
@@ -144,8 +140,7 @@ followed true x others ts = others ts
 followed false x others ts = Ok (x, ts)
 
 -- Steps from a state, each of which says whether another follows, at most so many; after the last
--- of
--- them `over`.
+-- of them `over`.
 unfoldable pub many_within : {S : Type 0} → ℕ → (S → Reads (S × Bool)) → (S → Reads S) → S → Reads S
 many_within zero step over s ts = over s ts
 many_within (suc left) step over s ts =

@@ -24,9 +24,9 @@ take_number low high ts = take_by (number_between low high) number_refused ts
 
 -- ---- strings
 
-abbrev pub text_of : TokenKind → Option (List ℕ)
-text_of (Text content) = Some content
-text_of _ = None
+abbrev pub string_content : TokenKind → Option (List ℕ)
+string_content (Text content) = Some content
+string_content _ = None
 
 -- a broken string is refused where it breaks, since a string may be here
 abbrev pub text_refused : TokenKind → ℕ → Refusal
@@ -34,7 +34,7 @@ text_refused (Cut r) at = r
 text_refused k at = refused_by k at
 
 unfoldable pub take_text : Reads (List ℕ)
-take_text ts = take_by text_of text_refused ts
+take_text ts = take_by string_content text_refused ts
 
 -- ---- names
 

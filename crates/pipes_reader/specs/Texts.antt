@@ -6,7 +6,7 @@ use Rattle.pipes_token.specs.declared.refusal.ReadFault.TheVariants as fault
 use Rattle.pipes_token.specs.declared.refusal.TextRefusal.{TextRefusal}
 use Rattle.pipes_token.specs.declared.refusal.TextWhy.TheVariants as why
 use Rattle.pipes_token.specs.declared.token.Token.{Token}
-use Rattle.pipes_token.specs.Places.{known}
+use Rattle.pipes_token.specs.Places.{located}
 use Rattle.pipes_token.specs.Tokens.{Tokens}
 use Rattle.pipes_reader.specs.Reading.{Reads, kinds_of, whole}
 use Rattle.pipes_reader.specs.Sentences.{Grammar, Whole}
@@ -30,8 +30,7 @@ ReadAs x (Err (fault.Text r)) = ⊥
 ReadAs x (Err fault.Memory) = Unit {0}
 
 -- A text's refusal: it is too long, or its tokens are refused at the first place at which no text
--- of the
--- grammar goes on.
+-- of the grammar goes on.
 pub data IsRefused {A : Type 0} (Is Within : Grammar A) (Where : Refusals) (read : Reads A)
     (bytes : List ℕ) : TextRefusal → Type 0 where
   too_long : 1048576 < length bytes
@@ -39,7 +38,7 @@ pub data IsRefused {A : Type 0} (Is Within : Grammar A) (Where : Refusals) (read
   tokens : (ts : List Token) (r : Refusal) → length bytes ≤ 1048576
       → Tokens (length bytes) bytes ts
       → FirstPlace (Whole Is) (Whole Within) Where (whole read) ts r
-      → IsRefused Is Within Where read bytes (known bytes r)
+      → IsRefused Is Within Where read bytes (located bytes r)
 
 -- ---- what a reader of texts answers
 
@@ -55,7 +54,7 @@ refused_long = record { line = 1; column = 1; why = why.Long }
 pub data IsRefusedBy {A : Type 0} (read : Reads A) (bytes : List ℕ) : TextRefusal → Type 0 where
   past_limit : 1048576 < length bytes → IsRefusedBy read bytes refused_long
   by_tokens : (ts : List Token) (r : Refusal) → HasTokens bytes ts → whole read ts ≡ Err r
-      → IsRefusedBy read bytes (known bytes r)
+      → IsRefusedBy read bytes (located bytes r)
 
 -- the value of the text's tokens, or why they have none
 abbrev pub IsReadBy : {A : Type 0} → Reads A → List ℕ → Result A ReadFault → Type 0

@@ -1,6 +1,6 @@
 // What is left of a text's tokens. After a refusal it is not read on.
 ghost use Rattle.std.specs.Prelude.{◌≡◌, IfOk, Some};
-ghost use Rattle.pipes_reader.specs.Reading.{after_first, take_first, Takes};
+ghost use Rattle.pipes_reader.specs.Reading.{after_first, take_first, GivesFrom};
 
 use crate::{ParseFault, ran_out};
 use pipes_token::{Refusal, Token};
@@ -48,7 +48,7 @@ impl<'a> Cursor<'a> {
     /// Takes the first token as this value, or refuses it where there is none.
     #[tactic(auto, unfolding(crate::specs::Reading::take_first))]
     pub fn take<T: Drop>(&mut self, value: Option<T>, refusal: Refusal) -> Result<T, ParseFault>
-        ensures exact { Takes (λ x. x) (take_first value refusal) self.old self.new result }
+        ensures exact { GivesFrom (λ x. x) (take_first value refusal) self.old self.new result }
         ensures given { IfOk result (λ x. value ≡ Some x) }
     {
         let [_, rest @ ..] = self.rest else {

@@ -1,6 +1,6 @@
 // Lists of entries under a limit.
 ghost use Rattle.std.specs.Prelude.{List, Bool};
-ghost use Rattle.pipes_reader.specs.Reading.{Reads, Takes};
+ghost use Rattle.pipes_reader.specs.Reading.{Reads, GivesFrom};
 ghost use Rattle.pipes_reader.specs.Reading as reading;
 
 use crate::{Cursor, ParseFault};
@@ -13,12 +13,12 @@ pub trait Entries<C> {
 
     /// Reads one more entry and says whether another follows.
     fn step(&mut self, context: &C, cursor: &mut Cursor<'_>) -> Result<bool, ParseFault>
-        ensures { Takes (λ more. (self.new, more))
+        ensures { GivesFrom (λ more. (self.new, more))
             (step context.now self.old) cursor.old cursor.new result };
 
     /// Reads on after the last entry that the limit allows, where another would follow.
     fn over(&mut self, context: &C, cursor: &mut Cursor<'_>) -> Result<(), ParseFault>
-        ensures { Takes (λ done. self.new)
+        ensures { GivesFrom (λ done. self.new)
             (over context.now self.old) cursor.old cursor.new result };
 }
 
@@ -30,7 +30,7 @@ pub fn many_within<C, E: Entries<C>>(
     entries: &mut E,
     cursor: &mut Cursor<'_>,
 ) -> Result<(), ParseFault>
-    ensures { Takes (λ done. entries.new)
+    ensures { GivesFrom (λ done. entries.new)
         (reading.many_within limit (E.step context.now)
         (E.over context.now) entries.old) cursor.old cursor.new result }
 {

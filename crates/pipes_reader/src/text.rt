@@ -1,5 +1,5 @@
 // Whole texts.
-ghost use Rattle.pipes_reader.specs.Reading.{Reads, Takes, Gives, then_end, whole};
+ghost use Rattle.pipes_reader.specs.Reading.{Reads, GivesFrom, Gives, then_end, whole};
 ghost use Rattle.pipes_reader.specs.Texts.{IsReadBy};
 
 use crate::{Cursor, ParseFault, ran_out, refused};
@@ -12,7 +12,7 @@ pub trait Parser<T> {
 
     /// Reads a value, as far as its tokens go.
     fn parse(&self, alloc: Global, cursor: &mut Cursor<'_>) -> Result<T, ParseFault>
-        ensures { Takes (λ value. value) (reads self.now) cursor.old cursor.new result };
+        ensures { GivesFrom (λ value. value) (reads self.now) cursor.old cursor.new result };
 }
 
 // The value, where the text ends after it.

@@ -1,7 +1,7 @@
 // Values of one token: numbers, strings and names.
 ghost use Rattle.std.specs.Prelude.{◌≡◌, ◌≤◌, IfOk, IfSome};
 ghost use Rattle.pipes_reader.specs.Names as named;
-ghost use Rattle.pipes_reader.specs.Reading.{Takes};
+ghost use Rattle.pipes_reader.specs.Reading.{GivesFrom};
 ghost use Rattle.pipes_reader.specs.Taking as spec;
 
 use crate::{Cursor, ParseFault, ran_out, refused};
@@ -33,7 +33,7 @@ fn number_refused(token: &Token) -> Refusal
 /// Takes a number between these.
 #[tactic(auto, unfolding(crate::specs::Taking::take_number, crate::specs::Reading::take_by, crate::specs::Reading::take_first))]
 pub fn take_number(low: u64, high: u64, cursor: &mut Cursor<'_>) -> Result<u64, ParseFault>
-    ensures exact { Takes (λ number. number)
+    ensures exact { GivesFrom (λ number. number)
         (spec.take_number low high) cursor.old cursor.new result }
     ensures bound { IfOk result (λ number. (low ≤ number) × (number ≤ high)) }
 {
@@ -58,7 +58,7 @@ fn text_refused(token: &Token) -> Refusal
 /// Takes a string.
 #[tactic(auto, unfolding(crate::specs::Taking::take_text, crate::specs::Reading::take_by, crate::specs::Reading::take_first))]
 pub fn take_text(cursor: &mut Cursor<'_>) -> Result<Text, ParseFault>
-    ensures { Takes (λ text. text) spec.take_text cursor.old cursor.new result }
+    ensures { GivesFrom (λ text. text) spec.take_text cursor.old cursor.new result }
 {
     match cursor.rest() {
         [] => Err(ParseFault::Refused(ran_out())),

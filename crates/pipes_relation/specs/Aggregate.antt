@@ -26,13 +26,13 @@ smaller a b = if is_lt (value_cmp b a) then b else a
 abbrev pub greater : Value → Value → Value
 greater a b = if is_lt (value_cmp a b) then b else a
 
-abbrev pub least : List Value → Value
-least [] = no_value
-least (v ∷ vs) = fold smaller v vs
+abbrev pub least_value : List Value → Value
+least_value [] = no_value
+least_value (v ∷ vs) = fold smaller v vs
 
-abbrev pub greatest : List Value → Value
-greatest [] = no_value
-greatest (v ∷ vs) = fold greater v vs
+abbrev pub greatest_value : List Value → Value
+greatest_value [] = no_value
+greatest_value (v ∷ vs) = fold greater v vs
 
 abbrev pub values_at : ℕ → List Row → List Value
 values_at c rows = map (λ row. column row c) rows
@@ -41,8 +41,8 @@ values_at c rows = map (λ row. column row c) rows
 abbrev pub aggregate : List Row → Agg → Value
 aggregate rows Count = value.Int (saturate_signed w64 (pos (length rows)))
 aggregate rows (Sum c) = value.Int (saturate_signed w64 (exact_sum c rows))
-aggregate rows (Min c) = least (values_at c rows)
-aggregate rows (Max c) = greatest (values_at c rows)
+aggregate rows (Min c) = least_value (values_at c rows)
+aggregate rows (Max c) = greatest_value (values_at c rows)
 aggregate rows (Avg c) = value.Int (int_div_euclid (exact_sum c rows) (pos (length rows)))
 
 -- the integer is at least minus the one and at most the other

@@ -2,7 +2,7 @@
 ghost use Rattle.std.specs.Prelude.{◌≡◌, IfOk, length, pos};
 ghost use Rattle.std.specs.Int.{saturate_signed, int_div_euclid, w64};
 ghost use Rattle.pipes_expr.specs.ExprValue.{column as value_at};
-ghost use Rattle.pipes_relation.specs.Aggregate.{number, exact_sum, FitsRows, least, greatest};
+ghost use Rattle.pipes_relation.specs.Aggregate.{number, exact_sum, FitsRows, least_value, greatest_value};
 ghost use Rattle.pipes_relation.specs.Aggregate.{values_at, smaller, greater, aggregate};
 ghost use Rattle.pipes_expr.specs.Seen.{value_seen};
 
@@ -48,8 +48,8 @@ fn greater<'a>(a: Seen<'a>, b: Seen<'a>) -> Seen<'a>
     if a.order(b).is_lt() { b } else { a }
 }
 
-fn least(rows: &[Tuple], column: u32) -> Seen<'_>
-    ensures { value_seen result ≡ least (values_at column rows.now) }
+fn least_value(rows: &[Tuple], column: u32) -> Seen<'_>
+    ensures { value_seen result ≡ least_value (values_at column rows.now) }
 {
     match rows.split_first() {
         Some((first, rest)) => {
@@ -63,8 +63,8 @@ fn least(rows: &[Tuple], column: u32) -> Seen<'_>
     }
 }
 
-fn greatest(rows: &[Tuple], column: u32) -> Seen<'_>
-    ensures { value_seen result ≡ greatest (values_at column rows.now) }
+fn greatest_value(rows: &[Tuple], column: u32) -> Seen<'_>
+    ensures { value_seen result ≡ greatest_value (values_at column rows.now) }
 {
     match rows.split_first() {
         Some((first, rest)) => {
@@ -109,8 +109,8 @@ pub fn aggregate(rows: &[Tuple], agg: &Agg) -> Result<Value, Memory>
     match agg {
         Agg::Count => Ok(Value::Int(count(rows))),
         Agg::Sum(column) => Ok(Value::Int(clamped(exact_sum(rows, *column)))),
-        Agg::Min(column) => least(rows, *column).copied(),
-        Agg::Max(column) => greatest(rows, *column).copied(),
+        Agg::Min(column) => least_value(rows, *column).copied(),
+        Agg::Max(column) => greatest_value(rows, *column).copied(),
         Agg::Avg(column) => Ok(Value::Int(average(rows, *column))),
     }
 }

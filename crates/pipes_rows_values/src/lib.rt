@@ -1,5 +1,7 @@
-//! Worked examples of the layers below plans: messages, and a watch over them. It has tests alone.
+//! Worked examples of values, and of messages with a watch over them. It has tests alone.
 #![tactic(auto)]
 
 #[cfg(test)]
 mod streams;
+#[cfg(test)]
+mod values;

@@ -18,7 +18,8 @@ use Rattle.pipes_query.specs.declared.query.Query.{Query}
 use Rattle.pipes_error.specs.Fault.{Fault, Words, QueryText, QueryType, Unbuilt, Missing, ReadFile}
 use Rattle.pipes_error.specs.Fault.{ReadSource, Row, Limit, Write, Memory}
 use Rattle.pipes_semantics.specs.Answer.{answer}
-use Rattle.pipes_answer.specs.Whole.{◌>>=◌, whole_items}
+use Rattle.pipes_time.specs.Results.{◌>>=◌}
+use Rattle.pipes_answer.specs.Whole.{whole_items}
 use Rattle.pipes_answer.specs.Lines.{tuple_lines}
 use Rattle.pipes_answer.specs.Gives.{HasAnswerCause, IsOfReading, Refuses}
 use Rattle.pipes_run.specs.Asked.{AnswerAt, job_of}

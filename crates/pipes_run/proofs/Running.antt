@@ -18,7 +18,7 @@ use Rattle.pipes_error.specs.Fault.{ReadSource, Row, Limit, Write, Memory}
 use Rattle.pipes_single.specs.declared.RunFault.{RunFault}
 use Rattle.pipes_single.specs.declared.RunFault.TheVariants as run
 use Rattle.pipes_single.specs.Ran.{DoesRun, source_kinds, DidRun}
-use Rattle.pipes_answer.specs.Whole.{◌>>=◌}
+use Rattle.pipes_time.specs.Results.{◌>>=◌}
 use Rattle.pipes_run.specs.Asked.{Job, RunOver, items_in}
 use Rattle.pipes_run.specs.Outcome.{ArePrefixes, StoppedAt, IsFileOf, Does, DoesAsked, FaultCounts}
 use Rattle.pipes_run.specs.Outcome.{WritesNothing}

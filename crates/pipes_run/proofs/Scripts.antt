@@ -10,7 +10,7 @@ use Rattle.pipes_query.specs.declared.query.Query.{Query}
 use Rattle.pipes_error.specs.Fault.{Fault, Words, QueryText, QueryType, Unbuilt, Missing, ReadFile}
 use Rattle.pipes_error.specs.Fault.{ReadSource, Row, Limit, Write, Memory}
 use Rattle.pipes_single.specs.Served.{is_served}
-use Rattle.pipes_answer.specs.Whole.{◌>>=◌}
+use Rattle.pipes_time.specs.Results.{◌>>=◌}
 use Rattle.pipes_run.specs.Asked.{Job, RunOver, items_in, job_of, is_empty_script}
 use Rattle.pipes_run.specs.Outcome.{FaultCounts, DoesAsked, HasCallCause, RanAfter}
 use Rattle.pipes_run.specs.Running.{RanOver, HasCauseOver, IsOfScript, IsOfRun}

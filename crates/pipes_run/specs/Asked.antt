@@ -17,7 +17,8 @@ use Rattle.pipes_semantics.specs.Answer.{schemas_of}
 use Rattle.pipes_error.specs.Fault.{Fault, Words, QueryText, QueryType, Unbuilt, Missing, ReadFile}
 use Rattle.pipes_error.specs.Fault.{ReadSource, Row, Limit, Write, Memory}
 use Rattle.pipes_single.specs.Served.{is_served}
-use Rattle.pipes_answer.specs.Whole.{◌>>=◌, whole_items}
+use Rattle.pipes_time.specs.Results.{◌>>=◌}
+use Rattle.pipes_answer.specs.Whole.{whole_items}
 
 -- What there is to do: a run in a form over the items of its sources; the answer at an instant over
 -- all items; or the print of a query that checks.

@@ -205,8 +205,7 @@ IsWhole (AnswerAt query items t) = ⊤
 IsWhole (PrintOf query) = ⊤
 
 -- Words and known files that ask for a job, with no count rising, give the status of success or
--- that
--- of out of memory.
+-- that of out of memory.
 abbrev pub IsComplete : List (List ℕ) → Option Names → FaultCounts → FaultCounts → ℕ → Type 0
 IsComplete words known before now status =
     (files : Names) (job : Job) → known ≡ Some files → AsksWords (command_of words) files (Ok job)

@@ -10,7 +10,7 @@ use Rattle.pipes_error.specs.Fault.{Fault, Words, QueryText, QueryType, Unbuilt,
 use Rattle.pipes_error.specs.Fault.{ReadSource, Row, Limit, Write, Memory, fault_seen}
 use Rattle.pipes_single.specs.declared.RunFault.{RunFault}
 use Rattle.pipes_single.specs.declared.RunFault.TheVariants as run
-use Rattle.pipes_answer.specs.Whole.{◌>>=◌}
+use Rattle.pipes_time.specs.Results.{◌>>=◌}
 use Rattle.pipes_run.specs.Asked.{RunOver, items_in}
 use Rattle.pipes_run.specs.Outcome.{FaultCounts, DoesAsked, WritesNothing}
 use Rattle.pipes_run.specs.Seen.{IsFree}

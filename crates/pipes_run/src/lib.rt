@@ -24,9 +24,9 @@ use std::alloc::Global;
 /// first fault, of which `err` gets one line.
 ///
 /// The words are `run QUERY SCRIPT [--form stream|normal]`, `at QUERY TIME` or `check QUERY`; files
-/// are found by their names, each is read through one
-/// buffer, and a source that a run reads is never held whole. What was written stands, also where a
-/// fault comes later. Out of memory gives status 6.
+/// are found by their names, each is read through one buffer, and a source that a run reads is
+/// never held whole. What was written stands, also where a fault comes later. Out of memory gives
+/// status 6.
 pub fn pipes<R: AllocGlobal, F: Files, K: Sink, G: Gate>(
     rt: &R,
     words: &[String],

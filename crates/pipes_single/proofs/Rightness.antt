@@ -3,6 +3,7 @@ use Rattle.std.proofs.Common.{◌≡◌, ℕ, ◌≤◌, ◌<◌, List, [], ◌�
 use Rattle.std.proofs.Common.{Option, Some, sym, ◌∙◌, ap, subst, arith, filter, map, unwrap_or}
 use Rattle.std.specs.List.{All}
 use Rattle.std.proofs.lemmas.List.Elements.{All-filter, filter-append}
+use Rattle.pipes_window.proofs.Heartbeats.{starts_lower}
 use Rattle.pipes_time.specs.Interval.{horizon}
 use Rattle.pipes_tuple.specs.declared.value.Kind.{Kind}
 use Rattle.pipes_tuple.specs.declared.value.Value.{Value}
@@ -44,11 +45,6 @@ pub record IsRunOf (query : Query) (s : SourceDecl) (items : List Item) : Type 0
 pub record AreResults (query : Query) (elems : List Elem) : Type 0 where
   pub order : StartsFrom 0 elems
   pub typed : All (IsResultOf query) elems
-
-starts_lower : (low high : ℕ) (elems : List Elem) → low ≤ high → StartsFrom high elems
-    → StartsFrom low elems
-starts_lower low high [] h up = tt
-starts_lower low high (e ∷ es) h up = (let l = up.0 in omega arith, up.1)
 
 starts-filter : (p : Elem → Bool) (low : ℕ) (elems : List Elem) → StartsFrom low elems
     → StartsFrom low (filter p elems)

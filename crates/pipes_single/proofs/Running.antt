@@ -11,6 +11,7 @@ use Rattle.std.proofs.Math.Seq.{drop-cons}
 use Rattle.std.proofs.lemmas.List.Elements.{All-nil, All-cons, All-append, filter-append}
 use Rattle.std.specs.declared.vec.Vec.{Vec}
 use Rattle.std.specs.declared.alloc.Global.{Global}
+use Rattle.std.proofs.lemmas.Bool.{and_parts}
 use Rattle.pipes_tuple.specs.declared.value.Kind.{Kind}
 use Rattle.pipes_tuple.specs.Kinds.{kind_of, Fits}
 use Rattle.pipes_stream.specs.declared.Elem.{Elem}
@@ -44,11 +45,6 @@ use Rattle.pipes_single.proofs.Keeping.{kept-stopped}
 use Rattle.pipes_single.proofs.Tuples.{more_fit, rest_fit}
 use Rattle.pipes_single.proofs.Rightness.{IsRunOf, sent-more, sent-rest}
 use Rattle.pipes_single.proofs.Texts.{whole_writes, early_writes, prefix_early, prefix_writes}
-
-and_parts : (a b : Bool) → (a && b) ≡ true → (a ≡ true) × (b ≡ true)
-and_parts true true h = (refl, refl)
-and_parts true false h = absurd (false≢true h)
-and_parts false b h = absurd (false≢true h)
 
 only_one : (l : List SourceDecl) → length l ≡ 1 → (s : SourceDecl) × (l ≡ s ∷ [])
 only_one [] h = absurd (omega (arith, h))

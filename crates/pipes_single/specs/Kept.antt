@@ -17,8 +17,7 @@ form_of (Stream text) = form.Stream
 form_of (Normal normal) = form.Normal
 
 -- Since the sink knew these bytes, the results are these elements: of the stream a prefix was
--- written and the rest is kept, of the normal form
--- all are kept.
+-- written and the rest is kept, of the normal form all are kept.
 abbrev pub Keeps : Option (List ℕ) → Option (List ℕ) → Results → List Elem → Type 0
 Keeps init now (Stream text) elems = PassesOn init now (lines (map entry.Result elems)) text.items
 Keeps init now (Normal normal) elems = Appends init now [] × (normal ≡ elems)

@@ -38,8 +38,7 @@ PrefixText form elems last bytes = (bytes ≡ []) ⊎ ((whole : List ℕ) × (n 
     × WholeText form elems last whole × (bytes ≡ take n whole))
 
 -- what is written before the source has ended: nothing, or a prefix of the lines, and nothing of
--- the
--- normal text
+-- the normal text
 abbrev pub EarlyText : Form → List Elem → List ℕ → Type 0
 EarlyText Stream elems bytes = PrefixText Stream elems Ended bytes
 EarlyText Normal elems bytes = bytes ≡ []

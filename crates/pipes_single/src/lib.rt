@@ -88,8 +88,8 @@ fn run_over<S: Source, K: Sink>(
 }
 
 /// Runs the query over the source and writes what it gives, in this form. A fault of the source
-/// ends its items, and what they give is
-/// written to the end; a write that fails, or out of memory, stops the run at once.
+/// ends its items, and what they give is written to the end; a write that fails, or out of memory,
+/// stops the run at once.
 pub fn run<S: Source, K: Sink>(
     alloc: Global,
     form: Form,

@@ -10,7 +10,7 @@ use Rattle.atomic_table.proofs.Lists.{at_set, set_else, at_snoc, at_longer}
 use Rattle.pipes_time.specs.Interval.{horizon}
 use Rattle.pipes_split.specs.declared.views.View.{View}
 use Rattle.pipes_split.specs.Views.{epochs, last_epoch, all_halts, all_words, halt_word}
-use Rattle.pipes_split.specs.Views.{greatest_at, first_at, low, IsSplitOf, top_of, split_of}
+use Rattle.pipes_split.specs.Views.{greatest_at, first_value_at, low, IsSplitOf, top_of, split_of}
 use Rattle.pipes_split.specs.Views.{has_asked}
 use Rattle.pipes_split.specs.Rule.{HasView, ViewFits, SomeTop, CloserKnows, EpochRule, HaltRule}
 use Rattle.pipes_split.specs.Rule.{OneCloses, Book, SplitRule}
@@ -179,7 +179,7 @@ pub record SameEpoch (e : ℕ) (v w : View) : Type 0 where
 
 -- the notes of a view fit the word
 pub record NoteFits (n e : ℕ) (v : View) : Type 0 where
-  pub splits : (t : ℕ) → first_at v.noted_splits e ≡ Some t → IsSplitOf n t
+  pub splits : (t : ℕ) → first_value_at v.noted_splits e ≡ Some t → IsSplitOf n t
   pub ends : greatest_at v.noted_ends e ≤ low n
 
 -- the word of the epoch stays

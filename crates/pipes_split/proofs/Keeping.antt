@@ -20,7 +20,7 @@ use Rattle.pipes_split.specs.declared.views.View.{View}
 use Rattle.pipes_split.specs.declared.views.Kind.{Kind}
 use Rattle.pipes_split.specs.declared.views.Kind.TheVariants as kind
 use Rattle.pipes_split.specs.Views.{epochs, last_epoch, all_halts, all_words, halt_word, Map}
-use Rattle.pipes_split.specs.Views.{greatest_at, first_at, has_key, low, split_of, has_asked}
+use Rattle.pipes_split.specs.Views.{greatest_at, first_value_at, is_among, low, split_of, has_asked}
 use Rattle.pipes_split.specs.Views.{act, blank, first_view, with_step, with_end, with_split}
 use Rattle.pipes_split.specs.Views.{with_halt, note_of, joined, without_note}
 use Rattle.pipes_split.specs.Rule.{HasView, ViewFits, EpochRule, HaltRule, Book, SplitRule}
@@ -40,7 +40,7 @@ use Rattle.pipes_split.proofs.Changes.{epoch-still, halt-still, rule-longer}
 note-fits : (n e : ℕ) (v w : View) → ViewFits n e v → w.noted_splits ≡ v.noted_splits
     → w.noted_ends ≡ v.noted_ends → NoteFits n e w
 note-fits n e v w a splits ends = record {
-  splits = λ t k. a.noted_split t (subst (λ (l : Map). first_at l e ≡ Some t) splits k);
+  splits = λ t k. a.noted_split t (subst (λ (l : Map). first_value_at l e ≡ Some t) splits k);
   ends = let q : greatest_at w.noted_ends e ≡ greatest_at v.noted_ends e =
       ap (λ (l : Map). greatest_at l e) ends in
       omega (arith, a.noted_end, q);
@@ -83,7 +83,7 @@ module _ (s : Book) (id i m : ℕ) (v w : View) (r : SplitRule s) (at : HasView 
           word-set (λ n. HaltMove (get_or s.words (halt_word k) 0) n k v w) s.words i m
           (halt_word k) wide
           (λ here. absurd (omega (arith, inside, here)))
-          (λ _. halt-still _ k s.views v w (r.halt k h) (ap (λ l. has_key l k) asked))
+          (λ _. halt-still _ k s.views v w (r.halt k h) (ap (λ l. is_among l k) asked))
 
 -- the word of an epoch that is closed isn't the last one
 not-last : (s : Book) (e : ℕ) → SplitRule s → e < epochs → 2 ^ 63 ≤ get_or s.words e 0
@@ -400,7 +400,7 @@ module _ (s : Book) (id i m : ℕ) (v w : View) (r : SplitRule s) (at : HasView 
           (record {
             top = ap (λ (l : Map). greatest_at l e) ends;
             split =
-                ap (λ (l : Map). first_at l e) splits;
+                ap (λ (l : Map). first_value_at l e) splits;
           })
           (note-fits (get_or s.words e 0) e v w a same.noted_splits same.noted_ends))
 
@@ -495,13 +495,13 @@ view-moved s id v w r at closes ends splits asked notes =
     (record {
       top = ap (λ (l : Map). greatest_at l e) ends;
       split =
-          ap (λ (l : Map). first_at l e) splits;
+          ap (λ (l : Map). first_value_at l e) splits;
     }) (notes e h))
-    (λ i h. halt-still _ i s.views v w (r.halt i h) (ap (λ l. has_key l i) asked))
+    (λ i h. halt-still _ i s.views v w (r.halt i h) (ap (λ l. is_among l i) asked))
 
 no-note : (n e : ℕ) (w : View) → w.noted_splits ≡ [] → w.noted_ends ≡ [] → NoteFits n e w
 no-note n e w splits ends = record {
-  splits = λ t k. none-is t (ap (λ (l : Map). first_at l e) (sym splits) ∙ k);
+  splits = λ t k. none-is t (ap (λ (l : Map). first_value_at l e) (sym splits) ∙ k);
   ends = let q : greatest_at w.noted_ends e ≡ 0 = ap (λ (l : Map). greatest_at l e) ends in
       omega (arith, q);
 }

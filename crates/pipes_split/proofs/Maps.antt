@@ -7,7 +7,7 @@ use mathlib.Core.Logic.{dite}
 use mathlib.Core.Option.{some, some-ne-none, some-injective}
 use native.Mathlib.Decide.{ℕ_discrete}
 use lib.ListN.{get_elem?}
-use Rattle.pipes_split.specs.Views.{Map, greatest_at, first_at, has_key}
+use Rattle.pipes_split.specs.Views.{Map, greatest_at, first_value_at, is_among}
 
 apart : (e k : ℕ) → k ≢ e → eqb e k ≡ false
 apart e k n = ne_eqb e k (λ h. n (sym h))
@@ -20,20 +20,21 @@ pub greatest-other : (ps : Map) (e k x : ℕ) → k ≢ e → greatest_at ((e, x
 greatest-other ps e k x n =
     ap (λ b. cond b (max x (greatest_at ps k)) (greatest_at ps k)) (apart e k n)
 
-pub first-here : (ps : Map) (e x : ℕ) → first_at ((e, x) ∷ ps) e ≡ Some x
-first-here ps e x = ap (λ b. cond b (Some x) (first_at ps e)) (eq-eqb e e refl)
+pub first-here : (ps : Map) (e x : ℕ) → first_value_at ((e, x) ∷ ps) e ≡ Some x
+first-here ps e x = ap (λ b. cond b (Some x) (first_value_at ps e)) (eq-eqb e e refl)
 
-pub first-other : (ps : Map) (e k x : ℕ) → k ≢ e → first_at ((e, x) ∷ ps) k ≡ first_at ps k
-first-other ps e k x n = ap (λ b. cond b (Some x) (first_at ps k)) (apart e k n)
+pub first-other : (ps : Map) (e k x : ℕ) → k ≢ e → first_value_at ((e, x) ∷ ps) k ≡ first_value_at
+    ps k
+first-other ps e k x n = ap (λ b. cond b (Some x) (first_value_at ps k)) (apart e k n)
 
-pub key-here : (ks : List ℕ) (i : ℕ) → has_key (i ∷ ks) i ≡ true
-key-here ks i = ap (λ b. b || has_key ks i) (eq-eqb i i refl)
+pub key-here : (ks : List ℕ) (i : ℕ) → is_among (i ∷ ks) i ≡ true
+key-here ks i = ap (λ b. b || is_among ks i) (eq-eqb i i refl)
 
-pub key-other : (ks : List ℕ) (k i : ℕ) → i ≢ k → has_key (k ∷ ks) i ≡ has_key ks i
-key-other ks k i n = ap (λ b. b || has_key ks i) (apart k i n)
+pub key-other : (ks : List ℕ) (k i : ℕ) → i ≢ k → is_among (k ∷ ks) i ≡ is_among ks i
+key-other ks k i n = ap (λ b. b || is_among ks i) (apart k i n)
 
-pub key-kept : (ks : List ℕ) (k i : ℕ) → has_key ks i ≡ true → has_key (k ∷ ks) i ≡ true
-key-kept ks k i h = elim (eqb k i) as (λ b. b || has_key ks i ≡ true) [ true ↦ refl | false ↦ h ]
+pub key-kept : (ks : List ℕ) (k i : ℕ) → is_among ks i ≡ true → is_among (k ∷ ks) i ≡ true
+key-kept ks k i h = elim (eqb k i) as (λ b. b || is_among ks i ≡ true) [ true ↦ refl | false ↦ h ]
 
 -- ---- optional numbers
 pub none-unless : (o : Option ℕ) → ((t : ℕ) → o ≡ Some t → ⊥) → o ≡ None

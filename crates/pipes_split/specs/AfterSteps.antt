@@ -5,7 +5,7 @@ use Rattle.pipes_time.specs.Interval.{horizon}
 use Rattle.pipes_split.specs.declared.views.View.{View}
 use Rattle.pipes_split.specs.declared.views.Kind.{Kind}
 use Rattle.pipes_split.specs.declared.views.Kind.TheVariants as kind
-use Rattle.pipes_split.specs.Views.{epochs, last_epoch, greatest_at, first_at, low, top_of}
+use Rattle.pipes_split.specs.Views.{epochs, last_epoch, greatest_at, first_value_at, low, top_of}
 use Rattle.pipes_split.specs.Views.{split_of}
 use Rattle.pipes_split.specs.Views.{act, with_step, with_end, with_split, with_halt, without_note}
 
@@ -49,7 +49,7 @@ pub record CloseSays (v : View) (e n : ℕ) (w : View) : Type 0 where
 
 -- what the note said is known, and the noted ends lie below the splits that are known
 pub record NoteSays (v : View) : Type 0 where
-  pub splits : (e t : ℕ) → e < epochs → v.closes ≡ true → first_at v.noted_splits e ≡ Some t
+  pub splits : (e t : ℕ) → e < epochs → v.closes ≡ true → first_value_at v.noted_splits e ≡ Some t
       → split_of v e ≡ Some t
   pub ends : (e t : ℕ) → e < epochs → split_of v e ≡ Some t → greatest_at v.noted_ends e < t
 

@@ -8,7 +8,7 @@ use Rattle.atomic_table.specs.Table.{State}
 use Rattle.pipes_time.specs.Interval.{horizon}
 use Rattle.pipes_split.specs.declared.views.View.{View}
 use Rattle.pipes_split.specs.Views.{epochs, last_epoch, all_halts, all_words, halt_word}
-use Rattle.pipes_split.specs.Views.{greatest_at, first_at, low, IsSplitOf, top_of, split_of}
+use Rattle.pipes_split.specs.Views.{greatest_at, first_value_at, low, IsSplitOf, top_of, split_of}
 use Rattle.pipes_split.specs.Views.{has_asked}
 
 abbrev pub HasView : List View → ℕ → View → Type 0
@@ -18,7 +18,7 @@ HasView views seat v = get_elem? views seat ≡ some v
 pub record ViewFits (n e : ℕ) (v : View) : Type 0 where
   pub top : top_of v e ≤ low n
   pub split : (t : ℕ) → split_of v e ≡ Some t → IsSplitOf n t
-  pub noted_split : (t : ℕ) → first_at v.noted_splits e ≡ Some t → IsSplitOf n t
+  pub noted_split : (t : ℕ) → first_value_at v.noted_splits e ≡ Some t → IsSplitOf n t
   pub noted_end : greatest_at v.noted_ends e ≤ low n
 
 -- some seat's greatest end of the epoch is this one

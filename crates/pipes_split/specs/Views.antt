@@ -34,13 +34,13 @@ greatest_at [] e = 0
 greatest_at (p ∷ ps) e = cond (p.0 == e) (max p.1 (greatest_at ps e)) (greatest_at ps e)
 
 -- the first number at a key
-abbrev pub first_at : Map → ℕ → Option ℕ
-first_at [] e = None
-first_at (p ∷ ps) e = cond (p.0 == e) (Some p.1) (first_at ps e)
+abbrev pub first_value_at : Map → ℕ → Option ℕ
+first_value_at [] e = None
+first_value_at (p ∷ ps) e = cond (p.0 == e) (Some p.1) (first_value_at ps e)
 
-abbrev pub has_key : List ℕ → ℕ → Bool
-has_key [] i = false
-has_key (k ∷ ks) i = (k == i) || has_key ks i
+abbrev pub is_among : List ℕ → ℕ → Bool
+is_among [] i = false
+is_among (k ∷ ks) i = (k == i) || is_among ks i
 
 -- ---- split words: open below 2 ^ 63, and closed from there on
 abbrev pub low : ℕ → ℕ
@@ -61,10 +61,10 @@ top_of v e = greatest_at v.ends e
 
 -- the split time of the epoch, where the seat knows it
 abbrev pub split_of : View → ℕ → Option ℕ
-split_of v e = first_at v.splits e
+split_of v e = first_value_at v.splits e
 
 abbrev pub has_asked : View → ℕ → Bool
-has_asked v i = has_key v.asked i
+has_asked v i = is_among v.asked i
 
 -- the word that the last step found
 abbrev pub last_found : View → ℕ

@@ -136,8 +136,7 @@ impl SplitBook {
 /// registered in an epoch lies below the split time that any seat knows of it. All seats that know
 /// a split time of an epoch know the same. The word of an epoch holds 0 or an end that some seat
 /// registered, and it is closed exactly where the seat that closes knows its split time. A halt
-/// word
-/// is set only where some seat set it.
+/// word is set only where some seat set it.
 pub fn seats_agree()
     ensures below { EndsLieBelow }
     ensures same { SplitsAgree }

@@ -1,3 +1,4 @@
 pub mod Messages
 pub mod Snapshots
 pub mod Ports
+pub mod Following

@@ -19,12 +19,13 @@ use Rattle.std.proofs.lemmas.List.{map-append, length-map}
 use Rattle.std.proofs.lemmas.List.Elements.{All-from_recursion}
 use Rattle.std.proofs.lemmas.Map.{lookup-remove_entry}
 use Rattle.std.proofs.lemmas.Map.Keys.{IsDistinct-from_sorted}
+use Rattle.std.proofs.lemmas.Bool.{and_parts}
 use Rattle.pipes_tuple.specs.declared.value.Value.{Value}
 use Rattle.pipes_tuple.specs.Columns.{at_columns}
 use Rattle.pipes_tuple.specs.Equal.{tuple_eq}
 use Rattle.pipes_tuple.proofs.Equality.{tuple_eq-Decides}
 use Rattle.pipes_stream.specs.declared.Elem.{Elem}
-use Rattle.pipes_sweep.specs.Areas.{KeptByKey, has_key, until, with_key}
+use Rattle.pipes_sweep.specs.Areas.{KeptByKey, has_key, until, elems_with_key}
 use Rattle.pipes_sweep.specs.Numbers.{Numbered, IsRising, IsIndexed, EndsLater, PopsEnded}
 use Rattle.pipes_sweep.specs.Numbers.{is_number, element, numbers_of, numbers_at, numbers_in}
 use Rattle.pipes_sweep.specs.Numbers.{end_cmp, key_ending}
@@ -58,11 +59,6 @@ not-gt a b h = grind (arith, nat_tests)
 
 pub end_low : (x y : ℕ × ℕ) → is_gt (end_cmp x y) ≡ false → x.0 ≤ y.0
 end_low x y h = not-gt x.0 y.0 (then-gt (nat_cmp x.0 y.0) (nat_cmp x.1 y.1) h)
-
-both_true : (a b : Bool) → (a && b) ≡ true → (a ≡ true) × (b ≡ true)
-both_true true true h = (refl, refl)
-both_true true false h = cc
-both_true false b h = cc
 
 -- ---- one more
 keys-case : (columns : List ℕ) (store : Numbered) (sets : Sets) (n : ℕ) (key k : List Value)
@@ -172,7 +168,7 @@ taken_back columns store sets ends put back end n key is above puts takes q =
     ∙ ap (λ (o : Option (List Value)). cond (is_eq (end_cmp (end, n) q)) None o) (puts q)
     ∙ back-case (is_eq (end_cmp (end, n) q)) key (get end_cmp ends q)
     (λ h.
-    let b = both_true (is_number end q.0) (is_number n q.1) (sym (end-test end n q.0 q.1) ∙ h) in
+    let b = and_parts (is_number end q.0) (is_number n q.1) (sym (end-test end n q.0 q.1) ∙ h) in
     is.by_end q.0 q.1
     ∙ ap (λ (k : ℕ). key_ending columns q.0 (element k store)) (sym (number_same n q.1 b.1))
     ∙ ap (key_ending columns q.0) (none_yet n store above))
@@ -343,11 +339,11 @@ key_there columns store sets ends key ns is these =
 pub key_elems : (area : KeptByKey) (columns : List ℕ) (store : Numbered) (sets : Sets) (ends : Ends)
     (key : List Value) (ns : List ℕ) → record { columns = columns; elems = values_of store } ≡ area
     → IsIndexed columns store sets ends → ns ≡ numbers_at sets key
-    → filter_map (λ n. element n store) ns ≡ with_key area.columns key area.elems
+    → filter_map (λ n. element n store) ns ≡ elems_with_key area.columns key area.elems
 key_elems area columns store sets ends key ns view is these =
     ap (filter_map (λ n. element n store)) (these ∙ is.by_key key)
     ∙ found_all columns key store is.rising
-    ∙ ap (λ (a : KeptByKey). with_key a.columns key a.elems) view
+    ∙ ap (λ (a : KeptByKey). elems_with_key a.columns key a.elems) view
 
 -- ---- numbers by key
 pub unlisted_none : (key k : List Value) (sets sets' : Sets) (n : ℕ) → sets' ≡ sets

@@ -15,7 +15,8 @@ use Rattle.pipes_stream.specs.declared.Elem.{Elem}
 use Rattle.pipes_stream.specs.Lawful.{open_count}
 use Rattle.pipes_sweep.specs.Numbers.{Numbered}
 use Rattle.std.specs.Map.{values_of}
-use Rattle.pipes_sweep.specs.Areas.{KeptByKey, AreaHolds, has_key, with_key, until, ended_count}
+use Rattle.pipes_sweep.specs.Areas.{KeptByKey, AreaHolds, has_key, elems_with_key, until}
+use Rattle.pipes_sweep.specs.Areas.{ended_count}
 
 -- one element more
 pub holds_pushed : (columns : List ℕ) (elems list : List Elem) (e : Elem)
@@ -26,7 +27,7 @@ holds_pushed columns elems list e h =
       all = Perm-right (e ∷ []) h.all;
       in_order = λ key.
           filter-append (has_key columns key) elems (e ∷ [])
-          ∙ ap (λ (es : List Elem). es ++ with_key columns key (e ∷ [])) (h.in_order key)
+          ∙ ap (λ (es : List Elem). es ++ elems_with_key columns key (e ∷ [])) (h.in_order key)
           ∙ sym (filter-append (has_key columns key) list (e ∷ []));
     }
 

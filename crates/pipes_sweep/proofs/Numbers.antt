@@ -21,7 +21,7 @@ use Rattle.std.proofs.lemmas.List.Elements.{All-from_recursion}
 use Rattle.std.proofs.lemmas.Map.Keys.{sorted_head, sorted_tail}
 use Rattle.pipes_tuple.specs.declared.value.Value.{Value}
 use Rattle.pipes_stream.specs.declared.Elem.{Elem}
-use Rattle.pipes_sweep.specs.Areas.{has_key, with_key, until}
+use Rattle.pipes_sweep.specs.Areas.{has_key, elems_with_key, until}
 use Rattle.pipes_sweep.specs.Numbers.{Numbered, IsRising, is_number, element, numbers_of}
 
 -- ---- tests of numbers
@@ -276,16 +276,16 @@ found-case false store p ps es names h = h
 found-in : (columns : List ℕ) (key : List Value) (store ps : Numbered)
     → AllByRecursion (Names store) ps
     → filter_map (λ n. element n store) (numbers_of columns key ps)
-    ≡ with_key columns key (values_of ps)
+    ≡ elems_with_key columns key (values_of ps)
 found-in columns key store [] h = refl
 found-in columns key store (p ∷ ps) h =
     found-case (has_key columns key p.1) store p (filter (λ q. has_key columns key q.1) ps)
-    (with_key columns key (values_of ps)) h.0 (found-in columns key store ps h.1)
+    (elems_with_key columns key (values_of ps)) h.0 (found-in columns key store ps h.1)
 
 -- the elements of a key's numbers are the elements of the key
 pub found_all : (columns : List ℕ) (key : List Value) (store : Numbered) → IsRising store
     → filter_map (λ n. element n store) (numbers_of columns key store)
-    ≡ with_key columns key (values_of store)
+    ≡ elems_with_key columns key (values_of store)
 found_all columns key store h = found-in columns key store store (each_names store h)
 
 there-case : (c : Bool) (store : Numbered) (p : ℕ × Elem) (ps : Numbered) → Names store p

@@ -10,20 +10,11 @@ use Rattle.pipes_stream.specs.declared.message.Message.{Message}
 use Rattle.pipes_stream.specs.declared.message.Message.TheVariants as message
 use Rattle.pipes_stream.specs.Progress.{Progress}
 use Rattle.pipes_stream.specs.Lists.{after, run, ValidFrom, elements}
+use Rattle.pipes_stream.proofs.Following.{intervals}
 use Rattle.pipes_stream.proofs.Messages.{run-append, valid-append, elements-append, elements-map}
 use Rattle.pipes_sweep.specs.Waiting.{StartsRise, due}
 use Rattle.pipes_sweep.specs.Sending.{progress_after, sent_at}
 use Rattle.pipes_sweep.proofs.Places.{due-below}
-
--- the elements of a valid list are valid in intervals
-pub intervals : (p : Progress) (ms : List Message) → ValidFrom p ms
-    → All (λ e. IsInterval e.span.start e.span.end) (elements ms)
-intervals p [] v = All-nil (λ (e : Elem). IsInterval e.span.start e.span.end)
-intervals p (message.Elem e ∷ ms) v =
-    All-cons (λ (e : Elem). IsInterval e.span.start e.span.end) e (elements ms) v.0.2
-    (intervals (after p (message.Elem e)) ms v.1)
-intervals p (message.Beat at ∷ ms) v = intervals (after p (message.Beat at)) ms v.1
-intervals p (message.End ∷ ms) v = intervals (after p message.End) ms v.1
 
 rise-head : (e : Elem) (es : List Elem) → StartsRise (e ∷ es)
     → All (λ d. e.span.start ≤ d.span.start) es

@@ -18,8 +18,8 @@ abbrev pub has_key : List ℕ → List Value → Elem → Bool
 has_key columns key e = tuple_eq (at_columns columns e.tuple) key
 
 -- the elements that have them, in order
-abbrev pub with_key : List ℕ → List Value → List Elem → List Elem
-with_key columns key list = filter (has_key columns key) list
+abbrev pub elems_with_key : List ℕ → List Value → List Elem → List Elem
+elems_with_key columns key list = filter (has_key columns key) list
 
 -- whether two intervals have an instant in common; intervals that only touch have none
 abbrev pub is_overlap : Span → Span → Bool
@@ -34,7 +34,7 @@ overlapping span list = filter (λ e. is_overlap span e.span) list
 pub record AreaHolds (area : KeptByKey) (list : List Elem) : Type 0 where
   pub all : Perm area.elems list
   pub in_order : (key : List Value)
-      → with_key area.columns key area.elems ≡ with_key area.columns key list
+      → elems_with_key area.columns key area.elems ≡ elems_with_key area.columns key list
 
 -- those that end after the instant
 abbrev pub until : ℕ → List Elem → List Elem

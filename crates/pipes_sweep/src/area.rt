@@ -4,7 +4,7 @@ ghost use Rattle.std.specs.Prelude.{length, ◌+◌, ◌<◌, ◌≤◌, true, f
 ghost use Rattle.pipes_stream.specs.declared.Elem.{Elem as Held};
 ghost use Rattle.pipes_tuple.specs.Columns.{at_columns, HasColumns};
 ghost use Rattle.pipes_sweep.specs.Areas.{AreaHolds, ended_count, is_overlap, overlapping, until};
-ghost use Rattle.pipes_sweep.specs.Areas.{with_key};
+ghost use Rattle.pipes_sweep.specs.Areas.{elems_with_key};
 
 use crate::end_index::EndIndex;
 use crate::key_index::KeyIndex;
@@ -114,7 +114,7 @@ impl Area {
 
     /// The elements with these values in the area's columns, in the order of insertion.
     pub fn of_key<'a>(&'a self, key: &Key) -> KeyElems<'a>
-        ensures { result ≡ with_key self.now.columns key.now self.now.elems }
+        ensures { result ≡ elems_with_key self.now.columns key.now self.now.elems }
     {
         KeyElems::new(&self.store, self.by_key.numbers(key))
     }
@@ -124,7 +124,7 @@ impl Area {
     pub fn probe(&self, key: &Key, span: &Interval, found: &mut Vec<Elem>) -> Result<(), Memory>
         ensures found { OnOk result ((list : List Held) → AreaHolds self.now list
             → found.new.items ≡ found.old.items
-            ++ overlapping span.now (with_key self.now.columns key.now list)) }
+            ++ overlapping span.now (elems_with_key self.now.columns key.now list)) }
         ensures memory { OnErr result (found.new.items ≡ found.old.items) }
     {
         self.probe_with::<Brand>(key, span, found, Blank::new(1))
@@ -143,7 +143,7 @@ impl Area {
         requires some { 0 < blank.parts }
         ensures found { OnOk result ((list : List Held) → AreaHolds self.now list
             → found.new.items ≡ found.old.items
-            ++ overlapping span.now (with_key self.now.columns key.now list)) }
+            ++ overlapping span.now (elems_with_key self.now.columns key.now list)) }
         ensures memory { OnErr result (found.new.items ≡ found.old.items) }
     {
         let mut steps: Steps<L> = Steps::new(blank);
@@ -161,10 +161,10 @@ impl Area {
     ) -> Result<(), Memory>
         ensures found { OnOk result ((list : List Held) → AreaHolds self.now list
             → found.new.items ≡ found.old.items
-            ++ overlapping span.now (with_key self.now.columns key.now list)) }
+            ++ overlapping span.now (elems_with_key self.now.columns key.now list)) }
         ensures memory { OnErr result (found.new.items ≡ found.old.items) }
         ensures steps { (list : List Held) → AreaHolds self.now list
-            → steps.new ≤ steps.old + length (with_key self.now.columns key.now list) }
+            → steps.new ≤ steps.old + length (elems_with_key self.now.columns key.now list) }
     {
         let before = found.len();
         let mut elems = self.of_key(key);

@@ -33,13 +33,13 @@ impl Model for Hold {
 fn count_due(waiting: &VecDeque<Elem>, t: u64) -> usize
     requires { StartsRise waiting.now.items }
     ensures bound { result ≤ deque_len waiting.now }
-    ensures prefix { take result waiting.now.items ≡ due t waiting.now.items }
-    ensures back { drop result waiting.now.items ≡ later t waiting.now.items }
+    ensures due { take result waiting.now.items ≡ due t waiting.now.items }
+    ensures later { drop result waiting.now.items ≡ later t waiting.now.items }
 {
     waiting.partition_point(|elem| elem.span.start() <= t)
 }
 
-// Moves so many from the prefix, in order, where there is room for them.
+// Moves out the first, so many and in order, where there is room for them.
 #[tactic(auto, using(crate::proofs::Places::moved_more, crate::proofs::Places::rest_more))]
 fn move_first(waiting: &mut VecDeque<Elem>, count: usize, out: &mut Vec<Elem>)
     requires there { count ≤ deque_len waiting.old }

@@ -24,7 +24,8 @@ use Rattle.pipes_reader.proofs.Repeats.{more_before, many_unended, reads_many}
 use Rattle.pipes_reader.proofs.Singles.{One, one, Mapped, mapped, MappedBefore, mapped_before}
 use Rattle.pipes_reader.proofs.Singles.{reads_mapped, Nothing, reads_too_many}
 use Rattle.pipes_reader.proofs.Values.{name_value, name_is, name_new, reads_name}
-use Rattle.pipes_text.specs.Grammar.{word_of, kind_of, IsColumn, column, AreColumns, last, more}
+use Rattle.pipes_text.specs.Grammar.{word_of, kind_of_token, IsColumn, column, AreColumns, last}
+use Rattle.pipes_text.specs.Grammar.{more}
 use Rattle.pipes_text.specs.Taking.{comma_of}
 use Rattle.pipes_text.specs.Reading.{Columns, with_column, read_kind, read_comma, read_column}
 use Rattle.pipes_text.specs.Reading.{one_too_many, read_columns}
@@ -37,11 +38,12 @@ abbrev stepped : Columns → List ℕ → Kind → Bool → Columns × Bool
 stepped columns name sort goes = (with_column columns name sort, goes)
 
 abbrev KindIs : Columns → List ℕ → Grammar (Columns × Bool)
-KindIs columns name = Then (One kind_of) (λ sort. Mapped (stepped columns name sort) (One comma_of))
+KindIs columns name = Then (One kind_of_token) (λ sort. Mapped (stepped columns name sort)
+    (One comma_of))
 
 abbrev KindIn : Columns → List ℕ → GrammarBefore (Columns × Bool)
 KindIn columns name =
-    ThenBefore (Anywhere (One kind_of))
+    ThenBefore (Anywhere (One kind_of_token))
     (λ sort. MappedBefore (stepped columns name sort) (Anywhere (One comma_of)))
 
 abbrev pub ColumnIs : Columns → Grammar (Columns × Bool)
@@ -72,7 +74,7 @@ reads_sort : (columns : Columns) (name : List ℕ)
     (in_turn read_kind
     (λ sort. in_turn read_comma (λ goes. done_with (stepped columns name sort goes))))
 reads_sort columns name =
-    turns (One kind_of) (One kind_of)
+    turns (One kind_of_token) (One kind_of_token)
     (λ sort. Mapped (stepped columns name sort) (One comma_of))
     (λ sort. MappedBefore (stepped columns name sort) (Anywhere (One comma_of))) read_kind
     (λ sort. in_turn read_comma (λ goes. done_with (stepped columns name sort goes))) reads_kind
@@ -120,7 +122,8 @@ pairs {a} {b} {d} {e} p q =
 -- one more column before others
 pub added : (bound next : ℕ → Type 0) → ((n : ℕ) → next n → bound (suc n)) → (columns all : Columns)
     (name : List ℕ) (sort : Kind) (w k c : TokenKind) (ls : List TokenKind)
-    → name_value word_of columns.0 w ≡ Some name → kind_of k ≡ Some sort → comma_of c ≡ Some true
+    → name_value word_of columns.0 w ≡ Some name → kind_of_token k ≡ Some sort
+    → comma_of c ≡ Some true
     → More next (with_column columns name sort) all ls → More bound columns all (w ∷ k ∷ c ∷ ls)
 added bound next step columns all name sort w k c ls e f g m =
     let n = name_is columns.0 (word_of w) name e in
@@ -140,7 +143,7 @@ added bound next step columns all name sort w k c ls e f g m =
 
 -- the last column
 pub ended_by : (bound : ℕ → Type 0) → bound 1 → (columns : Columns) (name : List ℕ) (sort : Kind)
-    (w k c : TokenKind) → name_value word_of columns.0 w ≡ Some name → kind_of k ≡ Some sort
+    (w k c : TokenKind) → name_value word_of columns.0 w ≡ Some name → kind_of_token k ≡ Some sort
     → comma_of c ≡ Some false → More bound columns (with_column columns name sort) (w ∷ k ∷ c ∷ [])
 ended_by bound least columns name sort w k c e f g =
     let n = name_is columns.0 (word_of w) name e in
@@ -164,7 +167,7 @@ pub record StepOf (columns : Columns) (o : Columns × Bool) (ks : List TokenKind
   pub k : TokenKind
   pub c : TokenKind
   pub name_of : name_value word_of columns.0 w ≡ Some name
-  pub sort_of : kind_of k ≡ Some sort
+  pub sort_of : kind_of_token k ≡ Some sort
   pub goes_of : comma_of c ≡ Some goes
   pub value : o ≡ stepped columns name sort goes
   pub tokens : ks ≡ w ∷ k ∷ c ∷ []

@@ -4,6 +4,9 @@ pub mod SourceLaws
 pub mod QueryLaws
 pub mod QueryTexts
 pub mod PrintLaws
+pub mod WritableLaws
 pub mod ScriptValues
+pub mod ScriptSteps
 pub mod ScriptLaws
 pub mod ScriptTexts
+pub mod WritableScripts

@@ -25,11 +25,13 @@ use Rattle.pipes_token.proofs.Writing.{write_close, write_comma, write_space_bef
 use Rattle.pipes_token.proofs.Writing.{write_space_after, write_then, write_apart_then}
 use Rattle.pipes_token.proofs.Quoting.{write_quoted}
 use Rattle.pipes_tuple.specs.declared.value.Kind.{Kind}
+use Rattle.pipes_tuple.specs.Kinds.{kind_word}
 use Rattle.pipes_tuple.specs.declared.value.Kind.TheVariants as kind
 use Rattle.pipes_tuple.specs.Texts.{quoted}
 use Rattle.pipes_window.specs.declared.kind.WindowKind.{WindowKind}
 use Rattle.pipes_plan.specs.declared.plan.Plan.{Plan}
 use Rattle.pipes_reader.specs.Reading.{kinds_of}
+use Rattle.pipes_reader.specs.Texts.{IsText}
 use Rattle.pipes_grammar.specs.Limits.{IsPlanText}
 use Rattle.pipes_reader.proofs.TokenLists.{kinds-append}
 use Rattle.pipes_print.specs.PlanText.{plan_text}
@@ -39,11 +41,12 @@ use Rattle.pipes_query.specs.declared.query.SourceDecl.{SourceDecl}
 use Rattle.pipes_query.specs.declared.query.Query.{Query}
 use Rattle.pipes_query.specs.Queries.{names_of}
 use Rattle.pipes_text.specs.Grammar as grammar
-use Rattle.pipes_text.specs.Grammar.{word_of, kind_of, IsColumn, AreColumns, IsSlack, IsWindowText}
+use Rattle.pipes_text.specs.Grammar.{word_of, kind_of_token, IsColumn, AreColumns, IsSlack}
+use Rattle.pipes_text.specs.Grammar.{IsWindowText}
 use Rattle.pipes_text.specs.Grammar.{IsSource, AreSources, IsQuery, query}
-use Rattle.pipes_text.specs.Limits.{IsQueryText}
+use Rattle.pipes_text.specs.Limits.{IsQueryWithin}
 use Rattle.pipes_text.specs.Texts.{IsTextOfQuery}
-use Rattle.pipes_text.specs.Printing.{kind_text, column_text, more_columns_text, columns_text}
+use Rattle.pipes_text.specs.Printing.{column_text, more_columns_text, columns_text}
 use Rattle.pipes_text.specs.Printing.{slack_text, window_text, source_line, sources_text, plan_line}
 use Rattle.pipes_text.specs.Printing.{query_text, HasText}
 
@@ -54,7 +57,8 @@ spelled_one k [] e = tt
 spelled_one k (l ∷ []) e = absurd cc
 spelled_one k (l ∷ m ∷ ks) e = absurd cc
 
-spelled_prefix : (n : ℕ) (bs : List ℕ) (ts : List Token) → Tokens n bs ts → (ks : List TokenKind)
+pub spelled_prefix : (n : ℕ) (bs : List ℕ) (ts : List Token) → Tokens n bs ts
+    → (ks : List TokenKind)
     → kinds_of ts ≡ ks ++ (End ∷ []) → AreSpelled ks
 spelled_prefix n _ _ (lexed.next bs here rest t ts placed begins short others) [] e = tt
 spelled_prefix n _ _ (lexed.next bs here rest t ts placed begins short others) (k ∷ ks) e =
@@ -120,28 +124,28 @@ write_word (Keyword k) name e s =
     subst (λ (z : List ℕ). Writes (Keyword k ∷ []) z) same (write_keyword k)
 write_word _ name e s = absurd cc
 
-write_kind : (k : TokenKind) (sort : Kind) → kind_of k ≡ Some sort
-    → Writes (k ∷ []) (kind_text sort)
+write_kind : (k : TokenKind) (sort : Kind) → kind_of_token k ≡ Some sort
+    → Writes (k ∷ []) (kind_word sort)
 write_kind (Keyword keyword.Int) sort e =
     let same : kind.Int ≡ sort = cc in
-    subst (λ (z : Kind). Writes (Keyword keyword.Int ∷ []) (kind_text z)) same
+    subst (λ (z : Kind). Writes (Keyword keyword.Int ∷ []) (kind_word z)) same
     (write_keyword keyword.Int)
 write_kind (Keyword keyword.Text) sort e =
     let same : kind.Text ≡ sort = cc in
-    subst (λ (z : Kind). Writes (Keyword keyword.Text ∷ []) (kind_text z)) same
+    subst (λ (z : Kind). Writes (Keyword keyword.Text ∷ []) (kind_word z)) same
     (write_keyword keyword.Text)
 write_kind (Keyword keyword.Flag) sort e =
     let same : kind.Flag ≡ sort = cc in
-    subst (λ (z : Kind). Writes (Keyword keyword.Flag ∷ []) (kind_text z)) same
+    subst (λ (z : Kind). Writes (Keyword keyword.Flag ∷ []) (kind_word z)) same
     (write_keyword keyword.Flag)
 write_kind _ sort e = absurd cc
 
 write_column : (name : List ℕ) (sort : Kind) (ks : List TokenKind) → IsColumn name sort ks
     → AreSpelled ks → Writes ks (column_text name sort)
 write_column _ _ _ (grammar.IsColumn.column name sort word k e f) s =
-    write_apart_then IsApart (word ∷ []) (k ∷ []) name (codes " " ++ kind_text sort) (λ more. refl)
+    write_apart_then IsApart (word ∷ []) (k ∷ []) name (codes " " ++ kind_word sort) (λ more. refl)
     (write_word word name e s.0)
-    (write_space_before IsApart (k ∷ []) (kind_text sort) (write_kind k sort f))
+    (write_space_before IsApart (k ∷ []) (kind_word sort) (write_kind k sort f))
 
 after_comma : (names : List (List ℕ)) (sorts : List Kind) (ks : List TokenKind)
     → AreColumns names sorts ks
@@ -287,12 +291,13 @@ write_sources _ _ (grammar.AreSources.more s ss ks ls is are) h =
 -- ---- the query
 
 -- wherever the text stands, its tokens are a sentence of the query
-record QueryPrinted (q : Query) : Type 0 where
-  kinds : List TokenKind
-  is : IsQueryText q kinds
-  writes : WritesFreely kinds (query_text q)
+pub record QueryPrinted (q : Query) : Type 0 where
+  pub kinds : List TokenKind
+  pub is : IsQueryWithin q kinds
+  pub writes : WritesFreely kinds (query_text q)
 
-printed_by : (q : Query) (ks : List TokenKind) → IsQuery q ks → IsQueryText q ks → AreSpelled ks
+pub printed_by : (q : Query) (ks : List TokenKind) → IsQuery q ks → IsQueryWithin q ks
+    → AreSpelled ks
     → QueryPrinted q
 printed_by _ _ (query q ss ps are it) is h =
     let spelled = spelled_right ss (Keyword keyword.Plan ∷ ps) h in
@@ -329,28 +334,26 @@ the_end n = lexed.stopped [] [] (record { at = n; kind = End })
       place = omega arith;
     }) refl
 
-text_of_printed : (q : Query) → QueryPrinted q → IsTextOfQuery q (query_text q)
-text_of_printed q p =
-    let n = length (query_text q) in
+-- what is written is a text of the value that its tokens are a sentence of
+pub text_by : {A : Type 0} (Is : A → List TokenKind → Type 0) (x : A) (ks : List TokenKind)
+    (bytes : List ℕ) → Is x ks → WritesFreely ks bytes → IsText Is x bytes
+text_by Is x ks bytes is writes =
+    let n = length bytes in
     let end : Token = record { at = n; kind = End } in
-    let short : length (query_text q ++ []) ≤ n =
-    subst (λ (z : List ℕ). length z ≤ n) (sym (append-nil (query_text q))) (omega arith) in
-    let made = p.writes.begins n [] (end ∷ []) short tt (the_end n) in
+    let short : length (bytes ++ []) ≤ n =
+    subst (λ (z : List ℕ). length z ≤ n) (sym (append-nil bytes)) (omega arith) in
+    let made = writes.begins n [] (end ∷ []) short tt (the_end n) in
     record {
       tokens = made.prefix ++ (end ∷ []);
-      are = subst (λ (z : List ℕ). Tokens n z (made.prefix ++ (end ∷ [])))
-          (append-nil (query_text q)) made.whole;
+      are = subst (λ (z : List ℕ). Tokens n z (made.prefix ++ (end ∷ []))) (append-nil bytes)
+          made.whole;
       spells = (
-        p.kinds,
-        p.is,
+        ks,
+        is,
         kinds-append made.prefix (end ∷ [])
             ∙ ap (λ (z : List TokenKind). z ++ (End ∷ [])) made.are,
       );
     }
 
-pub printed : (q : Query) → HasText q → IsTextOfQuery q (query_text q)
-printed q h =
-    let t = h.1 in
-    text_of_printed q
-    (printed_by q t.spells.0 t.spells.1.named.spells t.spells.1
-    (spelled_prefix (length h.0) h.0 t.tokens t.are t.spells.0 t.spells.2))
+pub text_of_printed : (q : Query) → QueryPrinted q → IsTextOfQuery q (query_text q)
+text_of_printed q p = text_by IsQueryWithin q p.kinds (query_text q) p.is p.writes

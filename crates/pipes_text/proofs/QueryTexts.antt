@@ -35,7 +35,7 @@ use Rattle.pipes_query.specs.declared.query.SourceDecl.{SourceDecl}
 use Rattle.pipes_query.specs.declared.query.Query.{Query}
 use Rattle.pipes_query.specs.Queries.{names_of}
 use Rattle.pipes_text.specs.Grammar.{AreSources, last, more, IsQuery, query}
-use Rattle.pipes_text.specs.Limits.{IsNamedQuery, IsQueryText}
+use Rattle.pipes_text.specs.Limits.{IsNamedQuery, IsQueryWithin}
 use Rattle.pipes_text.specs.Texts.{IsFileOfQuery, IsQueryPlace, QueryCause}
 use Rattle.pipes_text.specs.Texts as place
 use Rattle.pipes_text.specs.Reading.{read_sources, query_over, parse_query}
@@ -130,7 +130,7 @@ query_to : (q : Query) (ks : List TokenKind) → QueryIs q ks → IsNamedQuery q
 query_to _ _ (both sources _ sks _ is (mapped p ps it)) = named anything sources sks ps p is it
 
 query_within : (q : Query) (ks : List TokenKind) (h : Option TokenKind) → QueryIn q ks h
-    → IsQueryText q ks
+    → IsQueryWithin q ks
 query_within _ _ _ (turn sources _ sks _ _ is (mapped_before p ps h it)) = record {
   named = named (limited 16) sources sks ps p is it.spells;
   sources = is.short.0;
@@ -141,7 +141,7 @@ query_within _ _ _ (turn sources _ sks _ _ is (mapped_before p ps h it)) = recor
 }
 
 query_back : (q : Query) (ks : List TokenKind) (h : Option TokenKind) → IsQuery q ks
-    → IsQueryText q ks → QueryIn q ks h
+    → IsQueryWithin q ks → QueryIn q ks h
 query_back _ _ h (query q ss ps are it) is =
     subst (λ (z : List TokenKind). QueryIn q z h) (append_assoc ss (Keyword keyword.Plan ∷ []) ps)
     (turn q.sources q (ss ++ (Keyword keyword.Plan ∷ [])) ps h
@@ -175,7 +175,7 @@ named_unended q ks is = by q ks is.spells is
         (plan_unended (names_of q.sources) q.plan ps it)
 
 abbrev pub QueryBefore : GrammarBefore Query
-QueryBefore = Anywhere IsQueryText
+QueryBefore = Anywhere IsQueryWithin
 
 pub reads_query : IsReader IsNamedQuery QueryBefore IsQueryPlace parse_query
 unfolding parse_query
@@ -195,7 +195,7 @@ pub query_found : (bytes : List ℕ) (result : Result Query ReadFault)
     → IsReadBy parse_query bytes result
     → IfOk result (λ q. IsFileOfQuery q bytes)
 query_found bytes (Ok q) is =
-    text_found IsNamedQuery IsQueryText QueryBefore IsQueryPlace IsQueryPlace parse_query
+    text_found IsNamedQuery IsQueryWithin QueryBefore IsQueryPlace IsQueryPlace parse_query
     reads_query
     (λ x ks h it. it) (λ x ks it. it) bytes q is
 query_found bytes (Err f) is = tt
@@ -204,7 +204,8 @@ pub query_only : (bytes : List ℕ) (result : Result Query ReadFault)
     → IsReadBy parse_query bytes result
     → (q : Query) → IsFileOfQuery q bytes → ReadAs q result
 query_only bytes result is q it =
-    text_only IsNamedQuery IsQueryText QueryBefore IsQueryPlace IsQueryPlace parse_query reads_query
+    text_only IsNamedQuery IsQueryWithin QueryBefore IsQueryPlace IsQueryPlace parse_query
+    reads_query
     (λ x ks h it. it) (λ x ks it. it) bytes q result is it
 
 pub query_refused : (bytes : List ℕ) (result : Result Query ReadFault)
@@ -212,7 +213,7 @@ pub query_refused : (bytes : List ℕ) (result : Result Query ReadFault)
     → IfErr result (λ f. QueryCause bytes f)
 query_refused bytes (Ok q) is = tt
 query_refused bytes (Err (fault.Text r)) is =
-    text_refused IsNamedQuery IsQueryText QueryBefore IsQueryPlace IsQueryPlace parse_query
+    text_refused IsNamedQuery IsQueryWithin QueryBefore IsQueryPlace IsQueryPlace parse_query
     reads_query
     (λ x ks h it. it) (λ x ks it. it) (λ before t r p. p) place_first bytes r is
 query_refused bytes (Err fault.Memory) is = tt

@@ -18,7 +18,8 @@ use Rattle.pipes_reader.specs.Names.{is_taken, AreNew}
 use Rattle.pipes_reader.specs.Reading.{Reads, in_turn, done_with}
 use Rattle.pipes_reader.specs.Sentences.{Grammar, GrammarBefore, Anywhere, Begins, ahead, has_last}
 use Rattle.pipes_reader.specs.Places.{AtToken}
-use Rattle.pipes_reader.specs.Taking.{number_between, take_number, text_of, take_text, take_name}
+use Rattle.pipes_reader.specs.Taking.{number_between, take_number, string_content, take_text}
+use Rattle.pipes_reader.specs.Taking.{take_name}
 use Rattle.pipes_reader.proofs.Fresh.{fresh}
 use Rattle.pipes_reader.proofs.TokenLists.{both_unended, tokens_of, kinds-tokens}
 use Rattle.pipes_reader.proofs.Readers.{IsReader, Then, both, ThenBefore, turn, ReadsSome}
@@ -38,7 +39,8 @@ use Rattle.pipes_text.specs.Grammar as grammar
 use Rattle.pipes_text.specs.Grammar.{AreColumns, IsSlack, in_order, within, IsWindowText, time}
 use Rattle.pipes_text.specs.Grammar.{slide, count, IsSource, source}
 use Rattle.pipes_text.specs.Taking.{mark_value, source_word, slack_of, measure_of, slide_of}
-use Rattle.pipes_text.specs.Reading.{Columns, Shape, expect, read_columns, read_slack, read_measure}
+use Rattle.pipes_text.specs.Reading.{Columns, SourceShape, expect, read_columns, read_slack}
+use Rattle.pipes_text.specs.Reading.{read_measure}
 use Rattle.pipes_text.specs.Reading.{read_slide, read_size, read_window, read_head, read_shape}
 use Rattle.pipes_text.specs.Reading.{declared, read_source}
 use Rattle.pipes_text.proofs.Tokens.{mark_is, mark_token, mark_own, some_mark, reads_mark}
@@ -310,12 +312,12 @@ abbrev with_file : List ℕ → List ℕ → Head
 with_file name file = (name, file)
 
 abbrev FileIs : List ℕ → Grammar Head
-FileIs name = Then (One (mark_value mark.From)) (λ x. Mapped (with_file name) (One text_of))
+FileIs name = Then (One (mark_value mark.From)) (λ x. Mapped (with_file name) (One string_content))
 
 abbrev FileIn : List ℕ → GrammarBefore Head
 FileIn name =
     ThenBefore (Anywhere (One (mark_value mark.From)))
-    (λ x. MappedBefore (with_file name) (Anywhere (One text_of)))
+    (λ x. MappedBefore (with_file name) (Anywhere (One string_content)))
 
 abbrev HeadIs : List (List ℕ) → Grammar Head
 HeadIs names = Then (One (name_value source_word names)) FileIs
@@ -325,7 +327,7 @@ HeadIn names = ThenBefore (Anywhere (One (name_value source_word names))) FileIn
 
 headed : (names : List (List ℕ)) (name file : List ℕ) (k l m : TokenKind) (x : Unit {0})
     → name_value source_word names k ≡ Some name → mark_value mark.From l ≡ Some x
-    → text_of m ≡ Some file
+    → string_content m ≡ Some file
     → IsHead names (name, file) (k ∷ l ∷ m ∷ [])
 headed names name file k l m x e f g =
     let n = name_is names (source_word k) name e in
@@ -373,11 +375,11 @@ reads_file : (name : List ℕ) → IsReader (FileIs name) (FileIn name) AtToken
     (in_turn (expect mark.From) (λ x. in_turn take_text (λ file. done_with (with_file name file))))
 reads_file name =
     turns (One (mark_value mark.From)) (One (mark_value mark.From))
-    (λ x. Mapped (with_file name) (One text_of))
-    (λ x. MappedBefore (with_file name) (Anywhere (One text_of))) (expect mark.From)
+    (λ x. Mapped (with_file name) (One string_content))
+    (λ x. MappedBefore (with_file name) (Anywhere (One string_content))) (expect mark.From)
     (λ x. in_turn take_text (λ file. done_with (with_file name file))) (reads_mark mark.From)
-    (λ x ks is. reads_mapped (with_file name) (One text_of)
-    (Anywhere (One text_of)) take_text reads_text)
+    (λ x ks is. reads_mapped (with_file name) (One string_content)
+    (Anywhere (One string_content)) take_text reads_text)
     (λ x ks is. ((name, []), Text [] ∷ [], mapped [] (Text [] ∷ []) (one (Text []) [] refl)))
 
 pub reads_head : (names : List (List ℕ))
@@ -398,10 +400,10 @@ reads_head names =
 
 -- ---- its columns, slack and window
 
-abbrev shaped : Columns → ℕ → WindowKind → Shape
+abbrev shaped : Columns → ℕ → WindowKind → SourceShape
 shaped columns slack w = (columns, slack, w)
 
-pub record IsShape (bound : ℕ → Type 0) (s : Shape) (ks : List TokenKind) : Type 0 where
+pub record IsShape (bound : ℕ → Type 0) (s : SourceShape) (ks : List TokenKind) : Type 0 where
   pub cs : List TokenKind
   pub ls : List TokenKind
   pub ws : List TokenKind
@@ -412,34 +414,34 @@ pub record IsShape (bound : ℕ → Type 0) (s : Shape) (ks : List TokenKind) : 
   pub lasts : IsWindowText s.2 ws
   pub ks_is : ks ≡ Sign Open ∷ (cs ++ (Sign Close ∷ (ls ++ (Keyword keyword.Window ∷ ws))))
 
-abbrev pub ShapeIn : GrammarBefore Shape
+abbrev pub ShapeIn : GrammarBefore SourceShape
 ShapeIn s ks h = IsShape (at_most 32) s ks × WindowBefore s.2 h
 
-abbrev LastIs : Columns → ℕ → Grammar Shape
+abbrev LastIs : Columns → ℕ → Grammar SourceShape
 LastIs columns slack =
     Then (One (mark_value mark.Window)) (λ x. Mapped (shaped columns slack) IsWindowText)
 
-abbrev LastIn : Columns → ℕ → GrammarBefore Shape
+abbrev LastIn : Columns → ℕ → GrammarBefore SourceShape
 LastIn columns slack =
     ThenBefore (Anywhere (One (mark_value mark.Window)))
     (λ x. MappedBefore (shaped columns slack) WindowIn)
 
-abbrev LateIs : Columns → Grammar Shape
+abbrev LateIs : Columns → Grammar SourceShape
 LateIs columns = Then IsSlack (LastIs columns)
 
-abbrev LateIn : Columns → GrammarBefore Shape
+abbrev LateIn : Columns → GrammarBefore SourceShape
 LateIn columns = ThenBefore SlackIn (LastIn columns)
 
-abbrev InnerIs : Unit {0} → Grammar Shape
+abbrev InnerIs : Unit {0} → Grammar SourceShape
 InnerIs x = Then (More any no_columns) LateIs
 
-abbrev InnerIn : Unit {0} → GrammarBefore Shape
+abbrev InnerIn : Unit {0} → GrammarBefore SourceShape
 InnerIn x = ThenBefore (Anywhere (More (at_most 32) no_columns)) LateIn
 
-abbrev ShapeIs : Grammar Shape
+abbrev ShapeIs : Grammar SourceShape
 ShapeIs = Then (One (mark_value mark.Open)) InnerIs
 
-abbrev ShapeTurns : GrammarBefore Shape
+abbrev ShapeTurns : GrammarBefore SourceShape
 ShapeTurns = ThenBefore (Anywhere (One (mark_value mark.Open))) InnerIn
 
 made : (bound : ℕ → Type 0) (columns : Columns) (slack : ℕ) (w : WindowKind) (k l : TokenKind)
@@ -470,13 +472,13 @@ made bound columns slack w k l x y cs ls ws e m late f lasts =
     beside : List (List ℕ) → List Kind → Columns
     beside names sorts = (names, sorts)
 
-shape_to : (s : Shape) (ks : List TokenKind) → ShapeIs s ks → IsShape any s ks
+shape_to : (s : SourceShape) (ks : List TokenKind) → ShapeIs s ks → IsShape any s ks
 shape_to _ _ (both x _ _ _ (one k _ e)
     (both columns _ cs _ m
     (both slack _ ls _ late (both y _ _ _ (one l _ f) (mapped w ws lasts))))) =
     made any columns slack w k l x y cs ls ws e m late f lasts
 
-shape_within : (s : Shape) (ks : List TokenKind) (h : Option TokenKind) → ShapeTurns s ks h
+shape_within : (s : SourceShape) (ks : List TokenKind) (h : Option TokenKind) → ShapeTurns s ks h
     → ShapeIn s ks h
 shape_within _ _ _
     (turn x _ _ _ _ (one k _ e)
@@ -488,7 +490,8 @@ not_slack : (n : ℕ) → SlackBefore n (Some (Keyword keyword.Window))
 not_slack zero = refl
 not_slack (suc n) = tt
 
-shape_back : (s : Shape) (ks : List TokenKind) (h : Option TokenKind) → IsShape (at_most 32) s ks
+shape_back : (s : SourceShape) (ks : List TokenKind) (h : Option TokenKind)
+    → IsShape (at_most 32) s ks
     → WindowBefore s.2 h
     → ShapeTurns s ks h
 shape_back s ks h is next =
@@ -514,7 +517,7 @@ shape_back s ks h is next =
     (ap (λ (z : List TokenKind). Sign Open ∷ z) (append_assoc is.cs (Sign Close ∷ []) rest)
     ∙ sym is.ks_is) whole
 
-shape_unended : (bound : ℕ → Type 0) (s : Shape) (ks : List TokenKind) → IsShape bound s ks
+shape_unended : (bound : ℕ → Type 0) (s : SourceShape) (ks : List TokenKind) → IsShape bound s ks
     → has_last ks ≡ false
 shape_unended bound s ks is =
     ap (λ (z : List TokenKind). has_last z) is.ks_is
@@ -559,12 +562,12 @@ some_inner x =
     let cs = Name (97 ∷ []) ∷ Keyword keyword.Int ∷ Sign Close ∷ [] in
     (l.0, cs ++ l.1, both columns l.0 cs l.1 one_column l.2)
 
-abbrev read_last : Columns → ℕ → Reads Shape
+abbrev read_last : Columns → ℕ → Reads SourceShape
 read_last columns slack =
     in_turn (expect mark.Window)
     (λ x. in_turn read_window (λ w. done_with (shaped columns slack w)))
 
-abbrev read_late : Columns → Reads Shape
+abbrev read_late : Columns → Reads SourceShape
 read_late columns = in_turn read_slack (read_last columns)
 
 reads_last : (columns : Columns) (slack : ℕ)
@@ -640,7 +643,7 @@ abbrev SourceTurns : List (List ℕ) → GrammarBefore SourceDecl
 SourceTurns names =
     ThenBefore (Anywhere (IsHead names)) (λ head. MappedBefore (declared head) ShapeIn)
 
-joined : (bound : ℕ → Type 0) (names : List (List ℕ)) (head : Head) (shape : Shape)
+joined : (bound : ℕ → Type 0) (names : List (List ℕ)) (head : Head) (shape : SourceShape)
     (hs ss : List TokenKind)
     → IsHead names head hs → IsShape bound shape ss
     → IsNewSource bound names (declared head shape) (hs ++ ss)
@@ -673,7 +676,7 @@ source_back : (names : List (List ℕ)) (s : SourceDecl) (all ks : List TokenKin
 source_back names _ _ ks n (source s cs ls ws are late lasts) e free new short next =
     let inside = Sign Open ∷ (cs ++ (Sign Close ∷ (ls ++ (Keyword keyword.Window ∷ ws)))) in
     let tail : Name s.name ∷ Keyword keyword.From ∷ Text s.file ∷ inside ≡ ks = cc in
-    let shape : Shape = ((s.names, s.schema), s.slack, s.window) in
+    let shape : SourceShape = ((s.names, s.schema), s.slack, s.window) in
     let is : IsShape (at_most 32) shape inside =
     record {
       cs = cs;

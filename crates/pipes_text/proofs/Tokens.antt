@@ -15,7 +15,7 @@ use Rattle.pipes_reader.proofs.Singles.{One, one, NotLast, reads_plain}
 use Rattle.pipes_text.specs.declared.mark.Mark.{Mark}
 use Rattle.pipes_text.specs.declared.mark.Mark.TheVariants as mark
 use Rattle.pipes_text.specs.declared.mark.Measure.TheVariants as measure
-use Rattle.pipes_text.specs.Grammar.{word_of, kind_of}
+use Rattle.pipes_text.specs.Grammar.{word_of, kind_of_token}
 use Rattle.pipes_text.specs.Taking.{is_mark, marked, mark_value, source_word, comma_of, slack_of}
 use Rattle.pipes_text.specs.Taking.{measure_of, slide_of, source_or_plan, another_of, plan_of}
 use Rattle.pipes_text.specs.Reading.{expect, read_kind, read_comma, read_measure, read_next}
@@ -99,16 +99,16 @@ source_is _ w e = absurd cc
 
 -- ---- columns
 
-pub kind_not_last : NotLast kind_of
+pub kind_not_last : NotLast kind_of_token
 kind_not_last (Keyword k) x e = refl
 kind_not_last _ x e = absurd cc
 
-pub reads_kind : IsReader (One kind_of) (Anywhere (One kind_of)) AtToken read_kind
+pub reads_kind : IsReader (One kind_of_token) (Anywhere (One kind_of_token)) AtToken read_kind
 unfolding read_kind
 reads_kind =
-    reads_plain kind_of
+    reads_plain kind_of_token
     (kind.Int, Keyword keyword.Int ∷ [], one (Keyword keyword.Int) kind.Int refl) kind_not_last
-    (steady_by kind_of (λ n m e. refl) (λ v w e. refl))
+    (steady_by kind_of_token (λ n m e. refl) (λ v w e. refl))
 
 comma_not_last : NotLast comma_of
 comma_not_last (Sign s) x e = refl

@@ -25,18 +25,18 @@ word_of _ = None
 
 -- ---- `kind`
 
-abbrev pub kind_of : TokenKind → Option Kind
-kind_of (Keyword keyword.Int) = Some kind.Int
-kind_of (Keyword keyword.Text) = Some kind.Text
-kind_of (Keyword keyword.Flag) = Some kind.Flag
-kind_of _ = None
+abbrev pub kind_of_token : TokenKind → Option Kind
+kind_of_token (Keyword keyword.Int) = Some kind.Int
+kind_of_token (Keyword keyword.Text) = Some kind.Text
+kind_of_token (Keyword keyword.Flag) = Some kind.Flag
+kind_of_token _ = None
 
 -- ---- `column`
 
 -- a column's name, any word, and its kind
 pub data IsColumn : List ℕ → Kind → List TokenKind → Type 0 where
   column : (name : List ℕ) (sort : Kind) (word kind : TokenKind) → word_of word ≡ Some name
-      → kind_of kind ≡ Some sort → IsColumn name sort (word ∷ kind ∷ [])
+      → kind_of_token kind ≡ Some sort → IsColumn name sort (word ∷ kind ∷ [])
 
 -- the names and the kinds of one column or more, with a comma before each further one
 pub data AreColumns : List (List ℕ) → List Kind → List TokenKind → Type 0 where

@@ -4,6 +4,7 @@ pub mod Taking
 pub mod Reading
 pub mod Texts
 pub mod Printing
+pub mod Writable
 pub mod Scripts
 pub mod ScriptReading
 pub mod ScriptTexts

@@ -27,7 +27,7 @@ pub record IsNamedQuery (q : Query) (ks : List TokenKind) : Type 0 where
 
 -- such a query within the limits: 16 sources, 32 columns of each, 32 levels of the plan and of each
 -- expression, 32 entries of a list
-pub record IsQueryText (q : Query) (ks : List TokenKind) : Type 0 where
+pub record IsQueryWithin (q : Query) (ks : List TokenKind) : Type 0 where
   pub named : IsNamedQuery q ks
   pub sources : length q.sources ≤ 16
   pub columns : ColumnsWithin q.sources

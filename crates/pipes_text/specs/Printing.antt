@@ -2,7 +2,7 @@
 use Rattle.std.specs.Prelude.{ℕ, zero, suc, List, [], ◌∷◌, ◌++◌, codes}
 use Rattle.std.specs.Fmt.{decimal}
 use Rattle.pipes_tuple.specs.declared.value.Kind.{Kind}
-use Rattle.pipes_tuple.specs.declared.value.Kind.TheVariants as kind
+use Rattle.pipes_tuple.specs.Kinds.{kind_word}
 use Rattle.pipes_tuple.specs.Texts.{quoted}
 use Rattle.pipes_window.specs.declared.kind.WindowKind.{WindowKind}
 use Rattle.pipes_window.specs.declared.kind.WindowKind.TheVariants.{Time, Slide, Count}
@@ -13,13 +13,8 @@ use Rattle.pipes_query.specs.declared.query.Query.{Query}
 use Rattle.pipes_query.specs.Queries.{names_of}
 use Rattle.pipes_text.specs.Texts.{IsTextOfQuery}
 
-abbrev pub kind_text : Kind → List ℕ
-kind_text kind.Int = codes "int"
-kind_text kind.Text = codes "text"
-kind_text kind.Flag = codes "flag"
-
 abbrev pub column_text : List ℕ → Kind → List ℕ
-column_text name sort = name ++ (codes " " ++ kind_text sort)
+column_text name sort = name ++ (codes " " ++ kind_word sort)
 
 -- each after a comma
 abbrev pub more_columns_text : List (List ℕ) → List Kind → List ℕ

@@ -15,7 +15,7 @@ use Rattle.pipes_text.specs.declared.mark.Mark.{Mark}
 use Rattle.pipes_text.specs.declared.mark.Mark.TheVariants as mark
 use Rattle.pipes_text.specs.declared.mark.Measure.{Measure}
 use Rattle.pipes_text.specs.declared.mark.Measure.TheVariants as measure
-use Rattle.pipes_text.specs.Grammar.{word_of, kind_of}
+use Rattle.pipes_text.specs.Grammar.{word_of, kind_of_token}
 use Rattle.pipes_text.specs.Taking.{mark_value, source_word, comma_of, slack_of, measure_of}
 use Rattle.pipes_text.specs.Taking.{slide_of, source_or_plan, another_of}
 use Rattle.pipes_text.specs.Taking.{another_refused, plan_of}
@@ -24,7 +24,7 @@ unfoldable pub expect : Mark → Reads (Unit {0})
 expect m ts = take_by (mark_value m) refused_by ts
 
 unfoldable pub read_kind : Reads Kind
-read_kind ts = take_by kind_of refused_by ts
+read_kind ts = take_by kind_of_token refused_by ts
 
 -- ---- columns
 
@@ -82,16 +82,16 @@ read_head names =
     in_turn (expect mark.From) (λ from. in_turn take_text (λ file. done_with (name, file))))
 
 -- its columns, slack and window
-abbrev pub Shape : Type 0
-Shape = Columns × ℕ × WindowKind
+abbrev pub SourceShape : Type 0
+SourceShape = Columns × ℕ × WindowKind
 
-unfoldable pub read_shape : Reads Shape
+unfoldable pub read_shape : Reads SourceShape
 read_shape =
     in_turn (expect mark.Open) (λ paren. in_turn read_columns (λ columns.
     in_turn read_slack (λ slack. in_turn (expect mark.Window) (λ word.
     in_turn read_window (λ window. done_with (columns, slack, window))))))
 
-abbrev pub declared : List ℕ × List ℕ → Shape → SourceDecl
+abbrev pub declared : List ℕ × List ℕ → SourceShape → SourceDecl
 declared head shape = record {
   name = head.0;
   file = head.1;

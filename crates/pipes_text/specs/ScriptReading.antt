@@ -23,21 +23,20 @@ use Rattle.pipes_text.specs.Scripts.{file_place, with_file, migrations}
 
 -- ---- the first token of a command
 
-abbrev pub start_of : TokenKind → Option Start
-start_of (Keyword keyword.Feed) = Some start.Feed
-start_of (Keyword keyword.Rest) = Some start.Rest
-start_of (Keyword keyword.Await) = Some start.Await
-start_of (Keyword keyword.Migrate) = Some start.Migrate
-start_of (Keyword keyword.Drain) = Some start.Drain
-start_of _ = None
+abbrev pub command_start_of : TokenKind → Option Start
+command_start_of (Keyword keyword.Feed) = Some start.Feed
+command_start_of (Keyword keyword.Rest) = Some start.Rest
+command_start_of (Keyword keyword.Await) = Some start.Await
+command_start_of (Keyword keyword.Migrate) = Some start.Migrate
+command_start_of (Keyword keyword.Drain) = Some start.Drain
+command_start_of _ = None
 
 abbrev pub first_start : List Token → Option Start
 first_start [] = None
-first_start (t ∷ ts) = start_of t.kind
+first_start (t ∷ ts) = command_start_of t.kind
 
 -- why a command may not begin so: it isn't of the mode, or, where there are the most, it is one
--- more
--- migrate command, or one more of all
+-- more migrate command, or one more of all
 abbrev pub bar : Mode → Bool → Bool → Start → Option TextWhy
 bar Threaded full moved start.Feed = Some why.Mode
 bar Threaded full moved start.Rest = Some why.Mode
@@ -51,7 +50,7 @@ bar_if mode full moved (Some s) = bar mode full moved s
 bar_if mode full moved None = None
 
 abbrev pub bar_of : Mode → Bool → Bool → TokenKind → Option TextWhy
-bar_of mode full moved k = bar_if mode full moved (start_of k)
+bar_of mode full moved k = bar_if mode full moved (command_start_of k)
 
 abbrev pub barred_by : Option TextWhy → TokenKind → ℕ → Refusal
 barred_by (Some w) k at = refusal at w
@@ -110,7 +109,8 @@ and_more s = (s, true)
 -- one more command, or none
 abbrev pub command_or_end : List (List ℕ) → Script → Reads (Script × Bool)
 command_or_end names s =
-    with_tail start_of (λ first. in_turn (read_command names s first) (λ t. done_with (and_more t)))
+    with_tail command_start_of (λ first. in_turn (read_command names s first)
+    (λ t. done_with (and_more t)))
     (s, false)
 
 unfoldable pub next_command : List (List ℕ) → Mode → Script → Reads (Script × Bool)

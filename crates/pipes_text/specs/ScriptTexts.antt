@@ -26,3 +26,8 @@ IsRefusedScript q mode =
 abbrev pub ScriptCause : Query → Mode → List ℕ → ReadFault → Type 0
 ScriptCause q mode bytes (fault.Text r) = IsRefusedScript q mode bytes r
 ScriptCause q mode bytes fault.Memory = Unit {0}
+
+-- some text has this script, whatever its length
+abbrev pub HasScriptText : Query → Mode → Script → Type 0
+HasScriptText q mode s =
+    (bytes : List ℕ) × IsText (IsScriptText (names_of q.sources) mode) s bytes

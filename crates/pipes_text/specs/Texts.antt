@@ -15,20 +15,19 @@ use Rattle.pipes_query.specs.declared.query.SourceDecl.{SourceDecl}
 use Rattle.pipes_query.specs.declared.query.Query.{Query}
 use Rattle.pipes_query.specs.Queries.{names_of}
 use Rattle.pipes_text.specs.Grammar.{AreSources}
-use Rattle.pipes_text.specs.Limits.{IsNamedQuery, IsQueryText}
+use Rattle.pipes_text.specs.Limits.{IsNamedQuery, IsQueryWithin}
 use Rattle.pipes_text.specs.Reading.{parse_query}
 
 -- The tokens of the text are those of the query.
 abbrev pub IsTextOfQuery : Query → List ℕ → Type 0
-IsTextOfQuery = IsText IsQueryText
+IsTextOfQuery = IsText IsQueryWithin
 
 -- The same, of a text within the limit.
 abbrev pub IsFileOfQuery : Query → List ℕ → Type 0
-IsFileOfQuery = IsFile IsQueryText
+IsFileOfQuery = IsFile IsQueryWithin
 
 -- Where a refused query's place is: at the refused token, inside a string that begins there, or
--- where
--- the plan's is.
+-- where the plan's is.
 pub data IsQueryPlace (before : List Token) (t : Token) (r : Refusal) : Type 0 where
   there : r.at ≡ t.at → IsQueryPlace before t r
   inside : t.kind ≡ Cut r → IsQueryPlace before t r
@@ -39,7 +38,7 @@ pub data IsQueryPlace (before : List Token) (t : Token) (r : Refusal) : Type 0 w
 
 -- The text is too long, or its tokens are refused at the first place at which no query goes on.
 abbrev pub IsRefusedQuery : List ℕ → TextRefusal → Type 0
-IsRefusedQuery = IsRefused IsNamedQuery IsQueryText IsQueryPlace parse_query
+IsRefusedQuery = IsRefused IsNamedQuery IsQueryWithin IsQueryPlace parse_query
 
 -- why a text isn't read as a query
 abbrev pub QueryCause : List ℕ → ReadFault → Type 0

@@ -9,6 +9,6 @@ mod script;
 mod source;
 mod take;
 
-pub use print::{kind_text, print_plan, print_query};
+pub use print::{print_plan, print_query};
 pub use read::read_query;
 pub use script::read_script;

@@ -1,10 +1,12 @@
 // Printing queries.
-ghost use Rattle.std.specs.Prelude.{◌≡◌, ◌++◌, OnOk, OnErr};
+ghost use Rattle.std.specs.Prelude.{◌≡◌, ◌++◌, length, OnOk, OnErr};
 ghost use Rattle.std.specs.Fmt.{decimal};
 ghost use Rattle.pipes_tuple.specs.Texts.{quoted};
 ghost use Rattle.pipes_text.specs.Texts.{IsTextOfQuery};
 ghost use Rattle.pipes_text.specs.Printing.{HasText, with_plan};
 ghost use Rattle.pipes_text.specs.Printing as spec;
+ghost use Rattle.pipes_print.specs.Writable.{IsCheckedPlan};
+ghost use Rattle.pipes_text.specs.Writable.{IsWritableQuery};
 
 use crate::names::names_of;
 use itoa::Buffer;
@@ -33,24 +35,13 @@ fn push_number(number: u64, out: &mut Vec<u8>) -> Result<(), Memory>
     push(Buffer::new().format(number).as_bytes(), out)
 }
 
-/// The word for the kind: `int`, `text` or `flag`.
-pub fn kind_text(kind: Kind) -> &'static [u8]
-    ensures { result.now ≡ spec.kind_text kind }
-{
-    match kind {
-        Kind::Int => b"int",
-        Kind::Text => b"text",
-        Kind::Flag => b"flag",
-    }
-}
-
 // Appends a column.
 fn push_column(name: &Text, kind: Kind, out: &mut Vec<u8>) -> Result<(), Memory>
     ensures { OnOk result (out.new.items ≡ out.old.items ++ spec.column_text name.now kind) }
 {
     push(name.as_str().as_bytes(), out)?;
     push(b" ", out)?;
-    push(kind_text(kind), out)
+    push(kind.word(), out)
 }
 
 // Appends the other columns, each after a comma.
@@ -182,14 +173,16 @@ fn push_plan(sources: &[SourceDecl], plan: &Plan, out: &mut Vec<u8>) -> Result<(
 }
 
 /// Appends the text of the query: a line for each source, and one for the plan. When memory runs
-/// out,
-/// `out` is as before.
-#[tactic(auto, using(crate::proofs::PrintLaws::printed))]
+/// out, `out` is as before.
+#[tactic(auto, using(crate::proofs::WritableLaws::query_printed, crate::proofs::WritableLaws::query_writable))]
 pub fn print_query(query: &Query, out: &mut Vec<u8>) -> Result<(), Memory>
     ensures ok { OnOk result (out.new.items ≡ out.old.items ++ spec.query_text query.now) }
     ensures err { OnErr result (out.new.items ≡ out.old.items) }
-    // A query that some text has is read back.
-    ensures read_back { HasText query.now → IsTextOfQuery query.now (spec.query_text query.now) }
+    // What is printed of a writable query is read back.
+    ensures read_back { IsWritableQuery query.now
+        → IsTextOfQuery query.now (spec.query_text query.now) }
+    // A query that some text has is writable.
+    ensures writable { HasText query.now → IsWritableQuery query.now }
 {
     let mut text = Vec::new(*out.allocator());
     push_sources(query.sources.as_slice(), &mut text)?;
@@ -199,13 +192,18 @@ pub fn print_query(query: &Query, out: &mut Vec<u8>) -> Result<(), Memory>
 
 /// Appends the line of a plan over the query's sources. When memory runs out,
 /// `out` is as before.
-#[tactic(auto, using(crate::proofs::PrintLaws::printed))]
 pub fn print_plan(query: &Query, plan: &Plan, out: &mut Vec<u8>) -> Result<(), Memory>
     ensures ok { OnOk result
         (out.new.items ≡ out.old.items ++ spec.plan_line query.now.sources plan.now) }
     ensures err { OnErr result (out.new.items ≡ out.old.items) }
-    // After the lines of the sources it is read back, where some text has the query with this plan.
-    ensures read_back { HasText (with_plan query.now plan.now)
+    // After the lines of the sources it is read back, where the query with this plan is writable.
+    ensures read_back { IsWritableQuery (with_plan query.now plan.now)
+        → IsTextOfQuery (with_plan query.now plan.now)
+        (spec.sources_text query.now.sources ++ spec.plan_line query.now.sources plan.now) }
+    // So is a plan that checks over the sources of a writable query, though no text was read for
+    // it.
+    ensures checked { IsWritableQuery query.now
+        → IsCheckedPlan (length query.now.sources) plan.now
         → IsTextOfQuery (with_plan query.now plan.now)
         (spec.sources_text query.now.sources ++ spec.plan_line query.now.sources plan.now) }
 {

@@ -1,6 +1,6 @@
 // Reading queries.
 ghost use Rattle.std.specs.Prelude.{◌≤◌, IfOk, IfErr, length};
-ghost use Rattle.pipes_reader.specs.Reading.{Takes};
+ghost use Rattle.pipes_reader.specs.Reading.{GivesFrom};
 ghost use Rattle.pipes_query.specs.declared.query.Query.{Query as AQuery};
 ghost use Rattle.pipes_reader.specs.Texts.{ReadAs};
 ghost use Rattle.pipes_text.specs.Texts.{IsFileOfQuery, QueryCause};
@@ -59,7 +59,7 @@ impl Entries<()> for SourceList {
 // All sources, and the plan's keyword.
 #[tactic(auto, using(crate::proofs::QueryLaws::sources_fit), unfolding(crate::specs::Reading::read_sources))]
 fn read_sources(alloc: Global, cursor: &mut Cursor<'_>) -> Result<SourceList, ParseFault>
-    ensures exact { Takes (λ sources. sources) spec.read_sources cursor.old cursor.new result }
+    ensures exact { GivesFrom (λ sources. sources) spec.read_sources cursor.old cursor.new result }
     ensures bound { IfOk result (λ sources. length sources ≤ 16) }
 {
     let mut sources = SourceList {

@@ -2,11 +2,12 @@
 ghost use Rattle.std.specs.Prelude.{◌≡◌, ◌≤◌, ◌<◌, ◌^◌, ◌∷◌, [], Some, false, IfOk, IfErr, OnOk};
 ghost use Rattle.std.specs.Prelude.{length};
 ghost use Rattle.pipes_query.specs.declared.script.Script.{Script as AScript};
-ghost use Rattle.pipes_reader.specs.Reading.{Takes};
+ghost use Rattle.pipes_reader.specs.Reading.{GivesFrom};
 ghost use Rattle.pipes_reader.specs.Texts.{ReadAs};
 ghost use Rattle.pipes_text.specs.Scripts.{migrations};
 ghost use Rattle.pipes_text.specs.ScriptReading as spec;
-ghost use Rattle.pipes_text.specs.ScriptTexts.{IsFileOfScript, ScriptCause};
+ghost use Rattle.pipes_text.specs.ScriptTexts.{IsFileOfScript, ScriptCause, HasScriptText};
+ghost use Rattle.pipes_text.specs.Writable.{IsWritableQuery, IsWritableScript};
 
 use crate::mark::Start;
 use crate::names::names_of;
@@ -25,7 +26,7 @@ use std::marker::Model;
 // ---- the first token of a command
 
 fn start_of(kind: &TokenKind) -> Option<Start>
-    ensures { result ≡ spec.start_of kind.now }
+    ensures { result ≡ spec.command_start_of kind.now }
 {
     match kind {
         TokenKind::Keyword(Keyword::Feed) => Some(Start::Feed),
@@ -68,7 +69,7 @@ fn next_start(
     moved: bool,
     cursor: &Cursor<'_>,
 ) -> Result<Option<Start>, ParseFault>
-    ensures exact { Takes (λ start. tt)
+    ensures exact { GivesFrom (λ start. tt)
         (spec.read_bar mode full moved) cursor.now cursor.now result }
     ensures value { IfOk result (λ start. start ≡ spec.first_start cursor.now) }
     ensures bound { IfOk result (λ start. start ≡ Some Start.Migrate → moved ≡ false) }
@@ -110,7 +111,8 @@ fn source_refused(token: &Token) -> Refusal
 #[tactic(auto, unfolding(crate::specs::ScriptReading::take_source, pipes_reader::specs::Reading::take_by, pipes_reader::specs::Reading::take_first))]
 fn take_source(names: &[Text], cursor: &mut Cursor<'_>) -> Result<u32, ParseFault>
     requires { length names.now < 2 ^ 32 }
-    ensures { Takes (λ number. number) (spec.take_source names.now) cursor.old cursor.new result }
+    ensures { GivesFrom (λ number. number)
+        (spec.take_source names.now) cursor.old cursor.new result }
 {
     match cursor.rest() {
         [] => Err(ParseFault::Refused(ran_out())),
@@ -208,7 +210,7 @@ impl ScriptList {
     ) -> Result<(), ParseFault>
         requires names { length names.now < 2 ^ 32 }
         requires room { start ≡ Start.Migrate → migrations self.now.commands < 2048 }
-        ensures { Takes (λ done. self.new)
+        ensures { GivesFrom (λ done. self.new)
             (spec.read_command names.now self.old start) cursor.old cursor.new result }
     {
         match start {
@@ -263,7 +265,7 @@ fn read_commands(
     setting: &Setting,
     cursor: &mut Cursor<'_>,
 ) -> Result<ScriptList, ParseFault>
-    ensures exact { Takes (λ script. script)
+    ensures exact { GivesFrom (λ script. script)
         (spec.parse_script setting.now.0 setting.now.1) cursor.old cursor.new result }
     ensures commands { IfOk result (λ script. length script.commands ≤ 65536) }
     ensures files { IfOk result (λ script. length script.files ≤ 2048) }
@@ -291,7 +293,7 @@ impl Parser<Script> for Setting {
 }
 
 /// The script of the text, over the query's sources and in the mode.
-#[tactic(auto, using(crate::proofs::ScriptTexts::script_found, crate::proofs::ScriptTexts::script_only, crate::proofs::ScriptTexts::script_refused))]
+#[tactic(auto, using(crate::proofs::ScriptTexts::script_found, crate::proofs::ScriptTexts::script_only, crate::proofs::ScriptTexts::script_refused, crate::proofs::WritableScripts::script_has_text))]
 pub fn read_script(
     alloc: Global,
     query: &Query,
@@ -306,6 +308,13 @@ pub fn read_script(
         → ReadAs script result }
     // A refusal is the first that the text has, and it has one.
     ensures refused { IfErr result (λ fault. ScriptCause query.now mode bytes.now fault) }
+    // A script that some text has is writable.
+    ensures writable { (script : AScript) → HasScriptText query.now mode script
+        → IsWritableScript (length query.now.sources) mode script }
+    // And a writable script over a query of a text has a text.
+    ensures has_text { IsWritableQuery query.now → (script : AScript)
+        → IsWritableScript (length query.now.sources) mode script
+        → HasScriptText query.now mode script }
 {
     let names = names_of(alloc, query.sources.as_slice())?;
     read_text(alloc, &Setting { names, mode }, bytes)

@@ -1,6 +1,6 @@
 // Reading sources.
 ghost use Rattle.std.specs.Prelude.{◌≡◌, ◌≤◌, ◌∷◌, ◌++◌, [], OnOk, length};
-ghost use Rattle.pipes_reader.specs.Reading.{Takes};
+ghost use Rattle.pipes_reader.specs.Reading.{GivesFrom};
 ghost use Rattle.pipes_text.specs.Reading as spec;
 
 use crate::mark::{Mark, Measure};
@@ -87,7 +87,7 @@ fn listed(columns: Columns) -> (ColumnNames, Schema)
 // The columns of a source, and the end of them.
 #[tactic(auto, using(crate::proofs::ColumnLaws::names_fit, crate::proofs::ColumnLaws::kinds_fit), unfolding(crate::specs::Reading::read_columns))]
 fn read_columns(alloc: Global, cursor: &mut Cursor<'_>) -> Result<(ColumnNames, Schema), ParseFault>
-    ensures { Takes (λ x. (x.0, x.1)) spec.read_columns cursor.old cursor.new result }
+    ensures { GivesFrom (λ x. (x.0, x.1)) spec.read_columns cursor.old cursor.new result }
 {
     let mut columns = Columns::new(alloc);
     many_within(32, &(), &mut columns, cursor)?;
@@ -97,7 +97,7 @@ fn read_columns(alloc: Global, cursor: &mut Cursor<'_>) -> Result<(ColumnNames, 
 // How late its rows may come, where that is written.
 #[tactic(auto, unfolding(crate::specs::Reading::read_slack, pipes_reader::specs::Reading::optional))]
 fn read_slack(cursor: &mut Cursor<'_>) -> Result<u64, ParseFault>
-    ensures { Takes (λ slack. slack) spec.read_slack cursor.old cursor.new result }
+    ensures { GivesFrom (λ slack. slack) spec.read_slack cursor.old cursor.new result }
 {
     match cursor.rest() {
         [token, ..] if matches!(token.kind, TokenKind::Keyword(Keyword::Slack)) => {
@@ -111,7 +111,7 @@ fn read_slack(cursor: &mut Cursor<'_>) -> Result<u64, ParseFault>
 // The slide of a time window, where that is written.
 #[tactic(auto, unfolding(crate::specs::Reading::read_slide, pipes_reader::specs::Reading::optional))]
 fn read_slide(size: u64, cursor: &mut Cursor<'_>) -> Result<WindowKind, ParseFault>
-    ensures { Takes (λ window. window) (spec.read_slide size) cursor.old cursor.new result }
+    ensures { GivesFrom (λ window. window) (spec.read_slide size) cursor.old cursor.new result }
 {
     match cursor.rest() {
         [token, ..] if matches!(token.kind, TokenKind::Keyword(Keyword::Slide)) => {
@@ -124,7 +124,7 @@ fn read_slide(size: u64, cursor: &mut Cursor<'_>) -> Result<WindowKind, ParseFau
 
 #[tactic(auto, unfolding(crate::specs::Reading::read_window))]
 fn read_window(cursor: &mut Cursor<'_>) -> Result<WindowKind, ParseFault>
-    ensures { Takes (λ window. window) spec.read_window cursor.old cursor.new result }
+    ensures { GivesFrom (λ window. window) spec.read_window cursor.old cursor.new result }
 {
     match read_measure(cursor)? {
         Measure::Time => {
@@ -138,7 +138,7 @@ fn read_window(cursor: &mut Cursor<'_>) -> Result<WindowKind, ParseFault>
 // A source's name and file.
 #[tactic(auto, unfolding(crate::specs::Reading::read_head))]
 fn read_head(names: &[Text], cursor: &mut Cursor<'_>) -> Result<(Text, Text), ParseFault>
-    ensures { Takes (λ x. (x.0, x.1)) (spec.read_head names.now) cursor.old cursor.new result }
+    ensures { GivesFrom (λ x. (x.0, x.1)) (spec.read_head names.now) cursor.old cursor.new result }
 {
     let name = read_source_name(names, cursor)?;
     expect(Mark::From, cursor)?;
@@ -157,7 +157,7 @@ struct Shape {
 
 #[tactic(auto, unfolding(crate::specs::Reading::read_shape))]
 fn read_shape(alloc: Global, cursor: &mut Cursor<'_>) -> Result<Shape, ParseFault>
-    ensures { Takes
+    ensures { GivesFrom
         (λ x. (
           (x.names, x.schema),
           x.slack,
@@ -184,7 +184,8 @@ pub fn read_source(
     others: &[Text],
     cursor: &mut Cursor<'_>,
 ) -> Result<SourceDecl, ParseFault>
-    ensures { Takes (λ source. source) (spec.read_source others.now) cursor.old cursor.new result }
+    ensures { GivesFrom (λ source. source)
+        (spec.read_source others.now) cursor.old cursor.new result }
 {
     let (name, file) = read_head(others, cursor)?;
     let shape = read_shape(alloc, cursor)?;

@@ -1,7 +1,7 @@
 // Reading one token of a query: it is taken as a value, or refused.
 ghost use Rattle.std.specs.Prelude.{◌≡◌, IfOk, if◌then◌else◌, Some};
 ghost use Rattle.pipes_token.specs.Keywords.{keyword_text};
-ghost use Rattle.pipes_reader.specs.Reading.{Takes, take_by};
+ghost use Rattle.pipes_reader.specs.Reading.{GivesFrom, take_by};
 ghost use Rattle.pipes_reader.specs.Taking.{take_name};
 ghost use Rattle.pipes_text.specs.Grammar as grammar;
 ghost use Rattle.pipes_text.specs.Taking as value;
@@ -23,7 +23,7 @@ fn mark_value(mark: Mark, kind: &TokenKind) -> Option<()>
 // The token that is expected here, and nothing else.
 #[tactic(auto, unfolding(crate::specs::Reading::expect, pipes_reader::specs::Reading::take_by, pipes_reader::specs::Reading::take_first))]
 pub fn expect(mark: Mark, cursor: &mut Cursor<'_>) -> Result<(), ParseFault>
-    ensures { Takes (λ done. done) (spec.expect mark) cursor.old cursor.new result }
+    ensures { GivesFrom (λ done. done) (spec.expect mark) cursor.old cursor.new result }
 {
     match cursor.rest() {
         [] => Err(ParseFault::Refused(ran_out())),
@@ -32,7 +32,7 @@ pub fn expect(mark: Mark, cursor: &mut Cursor<'_>) -> Result<(), ParseFault>
 }
 
 fn kind_of(kind: &TokenKind) -> Option<Kind>
-    ensures { result ≡ grammar.kind_of kind.now }
+    ensures { result ≡ grammar.kind_of_token kind.now }
 {
     match kind {
         TokenKind::Keyword(Keyword::Int) => Some(Kind::Int),
@@ -45,7 +45,7 @@ fn kind_of(kind: &TokenKind) -> Option<Kind>
 // A column's kind.
 #[tactic(auto, unfolding(crate::specs::Reading::read_kind, pipes_reader::specs::Reading::take_by, pipes_reader::specs::Reading::take_first))]
 pub fn read_kind(cursor: &mut Cursor<'_>) -> Result<Kind, ParseFault>
-    ensures { Takes (λ kind. kind) spec.read_kind cursor.old cursor.new result }
+    ensures { GivesFrom (λ kind. kind) spec.read_kind cursor.old cursor.new result }
 {
     match cursor.rest() {
         [] => Err(ParseFault::Refused(ran_out())),
@@ -66,7 +66,7 @@ fn comma_of(kind: &TokenKind) -> Option<bool>
 // Whether another column follows.
 #[tactic(auto, unfolding(crate::specs::Reading::read_comma, pipes_reader::specs::Reading::take_by, pipes_reader::specs::Reading::take_first))]
 pub fn read_comma(cursor: &mut Cursor<'_>) -> Result<bool, ParseFault>
-    ensures { Takes (λ more. more) spec.read_comma cursor.old cursor.new result }
+    ensures { GivesFrom (λ more. more) spec.read_comma cursor.old cursor.new result }
 {
     match cursor.rest() {
         [] => Err(ParseFault::Refused(ran_out())),
@@ -87,7 +87,7 @@ fn measure_of(kind: &TokenKind) -> Option<Measure>
 // What a window is measured in.
 #[tactic(auto, unfolding(crate::specs::Reading::read_measure, pipes_reader::specs::Reading::take_by, pipes_reader::specs::Reading::take_first))]
 pub fn read_measure(cursor: &mut Cursor<'_>) -> Result<Measure, ParseFault>
-    ensures { Takes (λ measure. measure) spec.read_measure cursor.old cursor.new result }
+    ensures { GivesFrom (λ measure. measure) spec.read_measure cursor.old cursor.new result }
 {
     match cursor.rest() {
         [] => Err(ParseFault::Refused(ran_out())),
@@ -108,7 +108,7 @@ fn source_or_plan(some: bool, kind: &TokenKind) -> Option<bool>
 // Whether another source follows, or, where there are some, the plan.
 #[tactic(auto, unfolding(crate::specs::Reading::read_next, pipes_reader::specs::Reading::take_by, pipes_reader::specs::Reading::take_first))]
 pub fn read_next(some: bool, cursor: &mut Cursor<'_>) -> Result<bool, ParseFault>
-    ensures { Takes (λ another. another) (spec.read_next some) cursor.old cursor.new result }
+    ensures { GivesFrom (λ another. another) (spec.read_next some) cursor.old cursor.new result }
 {
     match cursor.rest() {
         [] => Err(ParseFault::Refused(ran_out())),
@@ -128,7 +128,7 @@ fn plan_of(some: bool, kind: &TokenKind) -> Option<()>
 // Refuses another source, after the last that a query may have.
 #[tactic(auto, unfolding(crate::specs::Reading::read_no_source, pipes_reader::specs::Reading::unless))]
 pub fn read_no_source(cursor: &Cursor<'_>) -> Result<(), ParseFault>
-    ensures { Takes (λ done. done) spec.read_no_source cursor.now cursor.now result }
+    ensures { GivesFrom (λ done. done) spec.read_no_source cursor.now cursor.now result }
 {
     match cursor.rest() {
         [token, ..] => match token.kind {
@@ -145,7 +145,7 @@ pub fn read_no_source(cursor: &Cursor<'_>) -> Result<(), ParseFault>
 // The plan's keyword, after the last source that a query may have.
 #[tactic(auto, unfolding(crate::specs::Reading::read_plan_mark, pipes_reader::specs::Reading::take_by, pipes_reader::specs::Reading::take_first))]
 pub fn read_plan_mark(some: bool, cursor: &mut Cursor<'_>) -> Result<(), ParseFault>
-    ensures { Takes (λ done. done) (spec.read_plan_mark some) cursor.old cursor.new result }
+    ensures { GivesFrom (λ done. done) (spec.read_plan_mark some) cursor.old cursor.new result }
 {
     match cursor.rest() {
         [] => Err(ParseFault::Refused(ran_out())),
@@ -168,7 +168,7 @@ fn source_word(kind: &TokenKind) -> Result<Option<Text>, Memory>
 // A source's name, beside others.
 #[tactic(auto, unfolding(pipes_reader::specs::Taking::take_name, pipes_reader::specs::Reading::take_by, pipes_reader::specs::Reading::take_first))]
 pub fn read_source_name(names: &[Text], cursor: &mut Cursor<'_>) -> Result<Text, ParseFault>
-    ensures { Takes (λ name. name)
+    ensures { GivesFrom (λ name. name)
         (take_name value.source_word names.now) cursor.old cursor.new result }
 {
     match cursor.rest() {
@@ -209,7 +209,7 @@ pub fn read_column_name(
     names: &[Text],
     cursor: &mut Cursor<'_>,
 ) -> Result<Text, ParseFault>
-    ensures { Takes (λ name. name)
+    ensures { GivesFrom (λ name. name)
         (take_name grammar.word_of names.now) cursor.old cursor.new result }
 {
     match cursor.rest() {

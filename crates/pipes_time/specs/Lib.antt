@@ -1,3 +1,4 @@
 pub mod Interval
 pub mod Slides
 pub mod Rising
+pub mod Results

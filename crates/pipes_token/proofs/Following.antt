@@ -7,8 +7,8 @@ use Rattle.pipes_token.specs.declared.token.TokenKind.TheVariants.{Sign, Keyword
 use Rattle.pipes_token.specs.declared.token.TokenKind.TheVariants.{Text, Long, Cut, Byte, End}
 use Rattle.pipes_token.specs.declared.token.Token.{Token}
 use Rattle.pipes_token.specs.Spelling.{Spells}
-use Rattle.pipes_token.specs.Tokens.{IsPlaced, Begins, Stops, Tokens, next, too_long, stopped}
-use Rattle.pipes_token.specs.Tokens.{is_last, Reads, Follows}
+use Rattle.pipes_token.specs.Tokens.{IsPlaced, TokenBegins, Stops, Tokens, next, too_long, stopped}
+use Rattle.pipes_token.specs.Tokens.{is_last, ReadsToken, Follows}
 use Rattle.pipes_token.proofs.ByFirst.{never_empty}
 use Rattle.pipes_token.proofs.Gaps.{past_shorter}
 
@@ -35,7 +35,7 @@ stop_is_last n here (Number i) h = absurd h
 stop_is_last n here (Text t) h = absurd h
 
 last_by : (n : ℕ) (bs here rest : List ℕ) (t : Token) → IsPlaced n bs here t
-    → Reads n here t.kind rest → is_last t.kind ≡ true → Tokens n bs (t ∷ [])
+    → ReadsToken n here t.kind rest → is_last t.kind ≡ true → Tokens n bs (t ∷ [])
 last_by n bs here rest t p (inl h) l = too_long bs here rest t p h
     (spelled_last t.kind h.spelling l h.spells)
 last_by n bs here rest t p (inr h) l = stopped bs here t p h
@@ -48,7 +48,8 @@ not_long : (kind : TokenKind) → is_last kind ≡ false → kind ≢ Long
 not_long kind h e = true≢false (sym (ap is_last e) ∙ h)
 
 next_by : (n : ℕ) (bs here rest : List ℕ) (t : Token) (ts : List Token) → IsPlaced n bs here t
-    → Reads n here t.kind rest → is_last t.kind ≡ false → Tokens n rest ts → Tokens n bs (t ∷ ts)
+    → ReadsToken n here t.kind rest → is_last t.kind ≡ false → Tokens n rest ts
+    → Tokens n bs (t ∷ ts)
 next_by n bs here rest t ts p (inl h) l k = next bs here rest t ts p h (not_long t.kind l) k
 next_by n bs here rest t ts p (inr h) l k = absurd (true≢false (sym (stop_is_last n here t.kind h)
     ∙ l))
@@ -61,7 +62,7 @@ spelled_some : (kind : TokenKind) (bs : List ℕ) → Spells kind bs → 0 < len
 spelled_some kind [] h = absurd (never_empty kind h)
 spelled_some kind (b ∷ bs) h = omega arith
 
-begins_shorter : (kind : TokenKind) (here rest : List ℕ) → Begins kind here rest
+begins_shorter : (kind : TokenKind) (here rest : List ℕ) → TokenBegins kind here rest
     → length rest < length here
 begins_shorter kind here rest h = omega (
   arith,
@@ -70,7 +71,7 @@ begins_shorter kind here rest h = omega (
   length-append h.spelling rest,
 )
 
-reads_shorter : (n : ℕ) (here rest : List ℕ) (kind : TokenKind) → Reads n here kind rest
+reads_shorter : (n : ℕ) (here rest : List ℕ) (kind : TokenKind) → ReadsToken n here kind rest
     → is_last kind ≡ false → length rest < length here
 reads_shorter n here rest kind (inl h) l = begins_shorter kind here rest h
 reads_shorter n here rest kind (inr h) l =

@@ -7,9 +7,10 @@ use Rattle.pipes_token.specs.declared.token.TokenKind.{TokenKind}
 use Rattle.pipes_token.specs.declared.token.TokenKind.TheVariants.{Sign, Keyword, Name, Number}
 use Rattle.pipes_token.specs.declared.token.TokenKind.TheVariants.{Text, Long, Cut, Byte, End}
 use Rattle.pipes_token.specs.declared.token.Token.{Token}
-use Rattle.pipes_token.specs.Strings.{IsString, IsCut}
+use Rattle.pipes_token.specs.Strings.{IsString, IsBrokenString}
 use Rattle.pipes_token.specs.Spelling.{Spells, IsLongest, BeginsNone}
-use Rattle.pipes_token.specs.Tokens.{IsPlaced, Begins, StopsText, Stops, Tokens, next, too_long}
+use Rattle.pipes_token.specs.Tokens.{IsPlaced, TokenBegins, StopsText, Stops, Tokens, next}
+use Rattle.pipes_token.specs.Tokens.{too_long}
 use Rattle.pipes_token.specs.Tokens.{stopped}
 use Rattle.pipes_token.proofs.Gaps.{same_past}
 use Rattle.pipes_token.proofs.Strings.{not_cut, same_cut}
@@ -40,8 +41,8 @@ append_same (b ∷ s) (c ∷ t) x y p e =
     let rest : s ++ x ≡ t ++ y = cc in
     append_same s t x y prefix rest
 
-same_begin : (kind other : TokenKind) (here rest left : List ℕ) → Begins kind here rest
-    → Begins other here left → (kind ≡ other) × (rest ≡ left)
+same_begin : (kind other : TokenKind) (here rest left : List ℕ) → TokenBegins kind here rest
+    → TokenBegins other here left → (kind ≡ other) × (rest ≡ left)
 same_begin kind other here rest left p q =
     let parts = sym p.parts ∙ q.parts in
     let spelling = same_spelling kind other p.spelling q.spelling rest left p.spells q.spells
@@ -69,7 +70,7 @@ of_quote : (kind : TokenKind) (b : ℕ) (s : List ℕ) → b ≡ 34 → Spells k
 of_quote kind b s e h = subst (λ (x : ℕ). Of (class_of x) (b ∷ s) kind) e (by_first kind b s h)
 
 not_both : (n : ℕ) (kind : TokenKind) (here s rest : List ℕ) (refusal : Refusal) → here ≡ s ++ rest
-    → Spells kind s → IsCut n here refusal → ⊥
+    → Spells kind s → IsBrokenString n here refusal → ⊥
 not_both n kind here [] rest refusal e h k = never_empty kind h
 not_both n kind here (b ∷ s) rest refusal e h k =
     let begins : b ∷ (s ++ rest) ≡ 34 ∷ (k.inside ++ k.left) = sym e ∙ k.begins in
@@ -77,7 +78,7 @@ not_both n kind here (b ∷ s) rest refusal e h k =
     let string = of_quote kind b s quote h in
     not_cut n string.0 (b ∷ s) rest here refusal string.1 e k
 
-not_stopped : (n : ℕ) (kind other : TokenKind) (here rest : List ℕ) → Begins kind here rest
+not_stopped : (n : ℕ) (kind other : TokenKind) (here rest : List ℕ) → TokenBegins kind here rest
     → Stops n here other → ⊥
 not_stopped n kind End here rest p h = some_begin kind p.spelling rest (sym h ∙ p.parts) p.spells
 not_stopped n kind Byte here rest p h = none_by_byte kind here p.spelling rest p.parts p.spells h
@@ -153,12 +154,13 @@ same_token t u e f =
     let made : ℕ → TokenKind → Token = λ (a : ℕ) (k : TokenKind). record { at = a; kind = k } in
     ap₂ made e f
 
-begins_here : (kind : TokenKind) (here there rest : List ℕ) → here ≡ there → Begins kind here rest
-    → Begins kind there rest
-begins_here kind here there rest e h = subst (λ (x : List ℕ). Begins kind x rest) e h
+begins_here : (kind : TokenKind) (here there rest : List ℕ) → here ≡ there
+    → TokenBegins kind here rest
+    → TokenBegins kind there rest
+begins_here kind here there rest e h = subst (λ (x : List ℕ). TokenBegins kind x rest) e h
 
 both_begin : (n : ℕ) (bs here there rest left : List ℕ) (t u : Token) → IsPlaced n bs here t
-    → IsPlaced n bs there u → Begins t.kind here rest → Begins u.kind there left → (t ≡ u)
+    → IsPlaced n bs there u → TokenBegins t.kind here rest → TokenBegins u.kind there left → (t ≡ u)
     × (t.kind ≡ u.kind) × (rest ≡ left)
 both_begin n bs here there rest left t u p q h k =
     let place = same_place n bs here there t u p q in
@@ -167,7 +169,7 @@ both_begin n bs here there rest left t u p q h k =
     (same_token t u place.1 same.0, same.0, same.1)
 
 one_stops : (n : ℕ) (bs here there rest : List ℕ) (t u : Token) → IsPlaced n bs here t
-    → IsPlaced n bs there u → Begins t.kind here rest → Stops n there u.kind → ⊥
+    → IsPlaced n bs there u → TokenBegins t.kind here rest → Stops n there u.kind → ⊥
 one_stops n bs here there rest t u p q h k =
     not_stopped n t.kind u.kind there rest (begins_here t.kind here there rest
     (same_place n bs here there t u p q).0 h) k

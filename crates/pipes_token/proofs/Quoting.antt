@@ -2,9 +2,12 @@
 use Rattle.std.proofs.Common.{◌≡◌, ◌≢◌, ℕ, ◌+◌, ◌/◌, ◌%◌, ◌≤◌, Bool, true, false, cond, List, []}
 use Rattle.std.proofs.Common.{◌∷◌, ◌++◌, Some, refl, sym, ap, ap₂, subst, ◌∙◌, arith, inl, inr, ◌⊎◌}
 use Rattle.std.specs.Prelude.{◌==◌}
-use Rattle.std.specs.Char.{encode_utf8}
+use Rattle.std.specs.Char.{IsScalar, encode_utf8}
+use Rattle.std.specs.Str.{IsUtf8}
+use Rattle.std.proofs.Math.Utf8.{scalar, scalars, low_scalar}
 use Rattle.std.specs.Str.{encode_utf8_all}
-use Rattle.std.proofs.lemmas.Bool.{cases_lt, cases_Bool, ne_eqb, eqb-true, eqb-false, le-ltb}
+use Rattle.std.proofs.lemmas.Bool.{and_parts, cases_lt, cases_Bool, ne_eqb, eqb-true, eqb-false}
+use Rattle.std.proofs.lemmas.Bool.{le-ltb}
 use Rattle.std.proofs.lemmas.Bool.Decides.{nat_tests}
 use Rattle.std.proofs.Common.{ltb}
 use Rattle.std.proofs.lemmas.List.Concat.{flat_map-append}
@@ -83,44 +86,62 @@ other_escaped c h k l m = elim (cases_lt c 128) [
 escape_of : (e c : ℕ) → escaped_by e ≡ Some c → (c ≡ 34) ⊎ ((c ≡ 92) ⊎ ((c ≡ 10) ⊎ (c ≡ 13)))
 escape_of e c h = grind (arith, nat_tests)
 
-written_char : (c : ℕ) (prefix : List ℕ) → SpellsChar c prefix → HowWritten c
-    → SpellsChar c (escaped (encode_utf8 c))
-written_char c prefix s (is_quote e) = subst (λ (x : ℕ). SpellsChar x (escaped (encode_utf8 x)))
+-- each character is written by an escape or as itself
+char_written : (c : ℕ) → IsScalar c → HowWritten c → SpellsChar c (escaped (encode_utf8 c))
+char_written c is (is_quote e) = subst (λ (x : ℕ). SpellsChar x (escaped (encode_utf8 x)))
     (sym e) (escape 34 refl (ap escaped (encode_ascii 34 (omega arith))))
-written_char c prefix s (is_backslash e) = subst (λ (x : ℕ). SpellsChar x (escaped (encode_utf8 x)))
+char_written c is (is_backslash e) = subst (λ (x : ℕ). SpellsChar x (escaped (encode_utf8 x)))
     (sym e) (escape 92 refl (ap escaped (encode_ascii 92 (omega arith))))
-written_char c prefix s (is_line_feed e) = subst (λ (x : ℕ). SpellsChar x (escaped (encode_utf8 x)))
+char_written c is (is_line_feed e) = subst (λ (x : ℕ). SpellsChar x (escaped (encode_utf8 x)))
     (sym e) (escape 110 refl (ap escaped (encode_ascii 10 (omega arith))))
-written_char c prefix s (is_return e) = subst (λ (x : ℕ). SpellsChar x (escaped (encode_utf8 x)))
+char_written c is (is_return e) = subst (λ (x : ℕ). SpellsChar x (escaped (encode_utf8 x)))
     (sym e) (escape 114 refl (ap escaped (encode_ascii 13 (omega arith))))
-written_char c prefix (itself s p f) (is_other h k l m) = itself s p (other_escaped c h k l m)
-written_char c prefix (escape x p f) (is_other h k l m) = elim (escape_of x c p) [
-  | inl e ↦ absurd (h e)
-  | inr (inl e) ↦ absurd (k e)
-  | inr (inr (inl e)) ↦ absurd (l e)
-  | inr (inr (inr e)) ↦ absurd (m e)
+char_written c is (is_other h k l m) =
+    itself is (rw (ne_eqb c 34 h, ne_eqb c 92 k, ne_eqb c 10 l) refl) (other_escaped c h k l m)
+
+chars_written : (cs : List ℕ) → scalars cs ≡ true → SpellsChars cs (escaped (encode_utf8_all cs))
+chars_written [] are = refl
+chars_written (c ∷ cs) are =
+    let parts = and_parts (scalar c) (scalars cs) are in (
+      escaped (encode_utf8 c),
+      escaped (encode_utf8_all cs),
+      char_written c parts.0 (how_written c),
+      flat_map-append escaped_byte (encode_utf8 c) (encode_utf8_all cs),
+      chars_written cs parts.1,
+    )
+
+-- what is UTF-8 is the content of the string that is written
+pub string_of_utf8 : (content : List ℕ) → IsUtf8 content → IsString content (quoted content)
+string_of_utf8 content (cs, (are, e)) = record {
+  characters = cs;
+  inside = escaped content;
+  content_is = sym e;
+  spells = subst (λ (x : List ℕ). SpellsChars cs (escaped x)) e (chars_written cs are);
+  quoted = refl;
+}
+
+-- and each content of a string is UTF-8
+char_scalar : (c : ℕ) (bs : List ℕ) → SpellsChar c bs → IsScalar c
+char_scalar c bs (itself is plain e) = is
+char_scalar c bs (escape x f e) = elim (escape_of x c f) [
+  | inl g ↦ low_scalar c (omega (arith, g))
+  | inr (inl g) ↦ low_scalar c (omega (arith, g))
+  | inr (inr (inl g)) ↦ low_scalar c (omega (arith, g))
+  | inr (inr (inr g)) ↦ low_scalar c (omega (arith, g))
 ]
 
-written_chars : (cs bs : List ℕ) → SpellsChars cs bs → SpellsChars cs (escaped (encode_utf8_all cs))
-written_chars [] bs h = refl
-written_chars (c ∷ cs) bs (prefix, left, s, e, rest) = (
-  escaped (encode_utf8 c),
-  escaped (encode_utf8_all cs),
-  written_char c prefix s (how_written c),
-  flat_map-append escaped_byte (encode_utf8 c) (encode_utf8_all cs),
-  written_chars cs left rest,
-)
+chars_scalars : (cs bs : List ℕ) → SpellsChars cs bs → scalars cs ≡ true
+chars_scalars [] bs h = refl
+chars_scalars (c ∷ cs) bs (prefix, left, s, e, rest) =
+    rw (char_scalar c prefix s) (chars_scalars cs left rest)
+
+pub utf8_of_string : (content bs : List ℕ) → IsString content bs → IsUtf8 content
+utf8_of_string content bs s =
+    (s.characters, (chars_scalars s.characters s.inside s.spells, sym s.content_is))
 
 -- a content of some string
 pub quoted_string : (content bs : List ℕ) → IsString content bs → IsString content (quoted content)
-quoted_string content bs s = record {
-  characters = s.characters;
-  inside = escaped content;
-  content_is = s.content_is;
-  spells = subst (λ (x : List ℕ). SpellsChars s.characters (escaped x)) (sym s.content_is)
-      (written_chars s.characters s.inside s.spells);
-  quoted = refl;
-}
+quoted_string content bs s = string_of_utf8 content (utf8_of_string content bs s)
 
 pub write_quoted : (content : List ℕ) → IsSpelled (Text content)
     → WritesFreely (Text content ∷ []) (quoted content)

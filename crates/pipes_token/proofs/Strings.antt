@@ -4,7 +4,7 @@ use Rattle.std.proofs.Common.{append_assoc, arith}
 use Rattle.std.specs.Str.{encode_utf8_all}
 use Rattle.pipes_token.specs.declared.refusal.TextWhy.{TextWhy}
 use Rattle.pipes_token.specs.declared.refusal.Refusal.{Refusal}
-use Rattle.pipes_token.specs.Strings.{StopsString, IsString, IsCut}
+use Rattle.pipes_token.specs.Strings.{StopsString, IsString, IsBrokenString}
 use Rattle.pipes_token.proofs.Characters.{same_chars, no_char_at_quote, no_char_where_stopped}
 
 tail : {a b : ℕ} {s t : List ℕ} → a ∷ s ≡ b ∷ t → s ≡ t
@@ -33,7 +33,7 @@ quote_goes_on why x h = h.1 refl
 
 -- a string that has its closing quote isn't refused
 pub not_cut : (n : ℕ) (content s x bs : List ℕ) (refusal : Refusal) → IsString content s → bs ≡ s
-    ++ x → IsCut n bs refusal → ⊥
+    ++ x → IsBrokenString n bs refusal → ⊥
 not_cut n content s x bs refusal p e q =
     let inside = tail (sym (inside_of s x p.inside p.quoted) ∙ sym e ∙ q.begins) in
     let same = same_chars p.characters q.characters p.inside q.inside (34 ∷ x) q.left p.spells
@@ -45,7 +45,8 @@ same_why : (why other : TextWhy) (bs : List ℕ) → StopsString why bs → Stop
 same_why why other [] p q = p ∙ sym q
 same_why why other (b ∷ bs) p q = p.0 ∙ sym q.0
 
-pub same_cut : (n : ℕ) (bs : List ℕ) (r s : Refusal) → IsCut n bs r → IsCut n bs s → r ≡ s
+pub same_cut : (n : ℕ) (bs : List ℕ) (r s : Refusal) → IsBrokenString n bs r → IsBrokenString n bs s
+    → r ≡ s
 same_cut n bs r s p q =
     let inside = tail (sym p.begins ∙ q.begins) in
     let same = same_chars p.characters q.characters p.inside q.inside p.left q.left p.spells

@@ -17,9 +17,9 @@ use Rattle.pipes_tuple.specs.Reading.{is_numeral}
 use Rattle.pipes_token.specs.declared.token.TokenKind.{TokenKind}
 use Rattle.pipes_token.specs.declared.token.TokenKind.TheVariants.{Number}
 use Rattle.pipes_token.specs.declared.refusal.TextWhy.TheVariants as why
-use Rattle.pipes_token.specs.Strings.{IsString, IsInside, IsCut, StopsString, HasNoChar}
+use Rattle.pipes_token.specs.Strings.{IsString, IsInside, IsBrokenString, StopsString, HasNoChar}
 use Rattle.pipes_token.specs.Spelling.{is_word_byte, is_word, Spells}
-use Rattle.pipes_token.specs.Tokens.{Begins}
+use Rattle.pipes_token.specs.Tokens.{TokenBegins}
 use Rattle.pipes_token.proofs.Runs.{Stopped, run_passes, run_stops}
 use Rattle.pipes_token.proofs.Longest.{word_longest, number_longest, string_longest}
 
@@ -68,7 +68,7 @@ prefix_is_word b bs here word n e h f g =
 
 pub word_begins : (kind : TokenKind) (b : ℕ) (bs here word rest : List ℕ) (n : ℕ) → here ≡ b ∷ bs
     → is_ascii_lowercase b ≡ true → n ≡ prefix_len is_word_byte here → word ≡ take n here
-    → rest ≡ drop n here → Spells kind word → Begins kind here rest
+    → rest ≡ drop n here → Spells kind word → TokenBegins kind here rest
 word_begins kind b bs here word rest n e h f g r k =
     let stops = subst (λ (x : List ℕ). Stopped is_word_byte x)
     (sym (r ∙ ap (λ (m : ℕ). drop m here) f)) (run_stops is_word_byte here) in
@@ -107,7 +107,7 @@ prefix_digits here digits n f g =
 pub number_begins : (value b : ℕ) (bs here digits rest : List ℕ) (n : ℕ) → here ≡ b ∷ bs
     → is_ascii_digit b ≡ true → n ≡ prefix_len is_ascii_digit here → digits ≡ take n here
     → rest ≡ drop n here → value ≡ min (digits_value 10 digits) (2 ^ 64 - 1)
-    → Begins (Number value) here rest
+    → TokenBegins (Number value) here rest
 number_begins value b bs here digits rest n e h f g r k =
     let stops = subst (λ (x : List ℕ). Stopped is_ascii_digit x)
     (sym (r ∙ ap (λ (m : ℕ). drop m here) f)) (run_stops is_ascii_digit here) in
@@ -123,7 +123,7 @@ number_begins value b bs here digits rest n e h f g r k =
 
 pub string_begins : (kind : TokenKind) (content later here left rest : List ℕ) → here ≡ 34 ∷ later
     → IsInside later content left → left ≡ 34 ∷ rest → ((bs : List ℕ) → IsString content bs
-    → Spells kind bs) → Begins kind here rest
+    → Spells kind bs) → TokenBegins kind here rest
 string_begins kind content later here left rest e p q k =
     let whole = 34 ∷ (p.inside ++ (34 ∷ [])) in
     let string : IsString content whole = record {
@@ -142,7 +142,7 @@ string_begins kind content later here left rest e p q k =
     }
 
 pub string_ends : (n at : ℕ) (content later here left : List ℕ) → here ≡ 34 ∷ later
-    → IsInside later content left → left ≡ [] → at ≡ n → IsCut n here
+    → IsInside later content left → left ≡ [] → at ≡ n → IsBrokenString n here
     (record { at = at; why = why.Ended })
 string_ends n at content later here left e p q f = record {
   characters = p.characters;
@@ -156,7 +156,7 @@ string_ends n at content later here left e p q f = record {
 
 pub string_breaks : (n at b : ℕ) (content later here left rest : List ℕ) → here ≡ 34 ∷ later
     → IsInside later content left → left ≡ b ∷ rest → b ≢ 34 → at + length left ≡ n
-    → IsCut n here (record { at = at; why = why.Byte })
+    → IsBrokenString n here (record { at = at; why = why.Byte })
 string_breaks n at b content later here left rest e p q h f = record {
   characters = p.characters;
   inside = p.inside;

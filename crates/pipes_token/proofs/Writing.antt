@@ -24,7 +24,7 @@ use Rattle.pipes_token.specs.Keywords.{keyword_text}
 use Rattle.pipes_token.specs.Strings.{IsString}
 use Rattle.pipes_token.specs.Spelling.{sign_text, is_word_byte, is_word, IsShortWord, IsKeyword}
 use Rattle.pipes_token.specs.Spelling.{Spells, IsLongest}
-use Rattle.pipes_token.specs.Tokens.{IsPlaced, Begins, Tokens, next, too_long, stopped}
+use Rattle.pipes_token.specs.Tokens.{IsPlaced, TokenBegins, Tokens, next, too_long, stopped}
 use Rattle.pipes_token.specs.Writing.{IsApart, BeginsWith, WritesBefore, Writes, WritesFreely}
 use Rattle.pipes_token.proofs.Gaps.{past_none, past_separator}
 use Rattle.pipes_token.proofs.Runs.{Stopped}
@@ -94,7 +94,7 @@ write_one kind spelling more n tokens h short long fits k =
           past_none bs (begins_no_gap kind spelling more h);
       place = omega arith;
     } in
-    let begins : Begins kind bs more = record {
+    let begins : TokenBegins kind bs more = record {
       spelling = spelling;
       parts = refl;
       spells = h;
@@ -136,13 +136,17 @@ write_name w short free = record {
       (word_longest w more short.0 (apart_stops more apart)) fits t;
 }
 
+pub spelled_number : (i : ℕ) → i < 2 ^ 64 → Spells (Number i) (decimal i)
+spelled_number i small =
+    let text = decimal_is_IsNumeral i small in
+    let value : i ≡ min (digits_value 10 (decimal i)) (2 ^ 64 - 1) = omega (arith, text.1) in
+    (is_numeral-IsNumeral (decimal i) text.0, value)
+
 pub write_number : (i : ℕ) → i < 2 ^ 64 → Writes (Number i ∷ []) (decimal i)
 write_number i small = record {
   begins = λ n more tokens fits apart t.
-      let text = decimal_is_IsNumeral i small in
-      let numeral = is_numeral-IsNumeral (decimal i) text.0 in
-      let value : i ≡ min (digits_value 10 (decimal i)) (2 ^ 64 - 1) = omega (arith, text.1) in
-      write_one (Number i) (decimal i) more n tokens (numeral, value) (λ e. absurd cc)
+      let numeral = (spelled_number i small).0 in
+      write_one (Number i) (decimal i) more n tokens (spelled_number i small) (λ e. absurd cc)
       (number_longest (decimal i) more numeral (apart_stops_digits more apart)) fits t;
 }
 

@@ -14,8 +14,8 @@ abbrev pub column_after : List ℕ → ℕ
 column_after prefix = suffix_len is_within_line prefix + 1
 
 -- the refusal of a text, known by line and column
-abbrev pub known : List ℕ → Refusal → TextRefusal
-known text refusal = record {
+abbrev pub located : List ℕ → Refusal → TextRefusal
+located text refusal = record {
   line = line_after (take refusal.at text);
   column =
       column_after (take refusal.at text);

@@ -54,7 +54,7 @@ StopsString why (b ∷ bs) = (why ≡ Byte) × (b ≢ 34) × HasNoChar (b ∷ bs
 
 -- A string begins here and is refused after some characters, in a text of n bytes of which `left`
 -- are left there.
-pub record IsCut (n : ℕ) (bs : List ℕ) (refusal : Refusal) : Type 0 where
+pub record IsBrokenString (n : ℕ) (bs : List ℕ) (refusal : Refusal) : Type 0 where
   pub characters : List ℕ
   pub inside : List ℕ
   pub left : List ℕ

@@ -4,7 +4,7 @@ use Rattle.pipes_token.specs.declared.token.TokenKind.{TokenKind}
 use Rattle.pipes_token.specs.declared.token.TokenKind.TheVariants.{Long, Cut, Byte, End}
 use Rattle.pipes_token.specs.declared.token.Token.{Token}
 use Rattle.pipes_token.specs.Gaps.{IsPastGap}
-use Rattle.pipes_token.specs.Strings.{IsCut}
+use Rattle.pipes_token.specs.Strings.{IsBrokenString}
 use Rattle.pipes_token.specs.Spelling.{Spells, IsLongest, BeginsNone}
 
 -- The token's place in a text of n bytes, of which `bs` are left before it and `here` after the
@@ -15,7 +15,7 @@ pub record IsPlaced (n : ℕ) (bs here : List ℕ) (token : Token) : Type 0 wher
 
 -- A token of the kind begins here, spelled by the longest bytes that spell any token, and `rest` is
 -- left after it.
-pub record Begins (kind : TokenKind) (here rest : List ℕ) : Type 0 where
+pub record TokenBegins (kind : TokenKind) (here rest : List ℕ) : Type 0 where
   pub spelling : List ℕ
   pub parts : here ≡ spelling ++ rest
   pub spells : Spells kind spelling
@@ -31,17 +31,17 @@ StopsText (b ∷ bs) = BeginsNone b
 abbrev pub Stops : ℕ → List ℕ → TokenKind → Type 0
 Stops n here End = here ≡ []
 Stops n here Byte = StopsText here
-Stops n here (Cut refusal) = IsCut n here refusal
+Stops n here (Cut refusal) = IsBrokenString n here refusal
 Stops n here _ = ⊥
 
 -- The tokens of the bytes that are left of a text of n bytes. What is too long, a refusal and the
 -- end of the text are the last.
 pub data Tokens (n : ℕ) : List ℕ → List Token → Type 0 where
   next : (bs here rest : List ℕ) (token : Token) (tokens : List Token) → IsPlaced n bs here token
-      → Begins token.kind here rest → token.kind ≢ Long → Tokens n rest tokens
+      → TokenBegins token.kind here rest → token.kind ≢ Long → Tokens n rest tokens
       → Tokens n bs (token ∷ tokens)
   too_long : (bs here rest : List ℕ) (token : Token) → IsPlaced n bs here token
-      → Begins token.kind here rest → token.kind ≡ Long → Tokens n bs (token ∷ [])
+      → TokenBegins token.kind here rest → token.kind ≡ Long → Tokens n bs (token ∷ [])
   stopped : (bs here : List ℕ) (token : Token) → IsPlaced n bs here token → Stops n here token.kind
       → Tokens n bs (token ∷ [])
 
@@ -56,11 +56,11 @@ is_last End = true
 is_last _ = false
 
 -- what stands here, in a text of n bytes: a token, and what is left after it, or why there is none
-abbrev pub Reads : ℕ → List ℕ → TokenKind → List ℕ → Type 0
-Reads n here kind rest = Begins kind here rest ⊎ Stops n here kind
+abbrev pub ReadsToken : ℕ → List ℕ → TokenKind → List ℕ → Type 0
+ReadsToken n here kind rest = TokenBegins kind here rest ⊎ Stops n here kind
 
 -- The token after the gap that stands here, in a text of n bytes, and what is left after it.
 pub record Follows (n : ℕ) (bs : List ℕ) (token : Token) (rest : List ℕ) : Type 0 where
   pub here : List ℕ
   pub placed : IsPlaced n bs here token
-  pub reads : Reads n here token.kind rest
+  pub reads : ReadsToken n here token.kind rest

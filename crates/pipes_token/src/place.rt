@@ -2,7 +2,7 @@
 ghost use Rattle.std.specs.Prelude.{◌≡◌, ◌≤◌, ◌+◌, length, take, count_by, ◌==◌};
 ghost use Rattle.std.specs.List.{suffix_len};
 ghost use Rattle.pipes_token.specs.Gaps.{is_within_line};
-ghost use Rattle.pipes_token.specs.Places.{known};
+ghost use Rattle.pipes_token.specs.Places.{located};
 
 use crate::{Refusal, TextRefusal};
 
@@ -13,7 +13,7 @@ pub const LONGEST_FILE: usize = 1_048_576;
 /// the last byte.
 pub fn tell(bytes: &[u8], refusal: Refusal) -> TextRefusal
     requires { length bytes.now ≤ LONGEST_FILE }
-    ensures { result ≡ known bytes.now refusal }
+    ensures { result ≡ located bytes.now refusal }
 {
     let prefix = &bytes[..refusal.at.min(bytes.len())];
     TextRefusal {

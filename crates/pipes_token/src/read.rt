@@ -7,7 +7,7 @@ ghost use Rattle.std.specs.Str.Parse.{digits_value};
 ghost use Rattle.pipes_token.specs.declared.token.Sign.{Sign as ASign};
 ghost use Rattle.pipes_token.specs.Strings.{IsString};
 ghost use Rattle.pipes_token.specs.Spelling.{is_word, is_word_byte, sign_text, Spells, BeginsNone};
-ghost use Rattle.pipes_token.specs.Tokens.{Begins, Reads};
+ghost use Rattle.pipes_token.specs.Tokens.{TokenBegins, ReadsToken};
 
 use crate::bytes::first;
 use crate::keyword::{KEYWORDS, find_word};
@@ -22,7 +22,7 @@ use std::str;
 // What stands here in a text of `total` bytes, and what is left after it.
 pub(crate) fn read(alloc: Global, total: usize, here: &[u8]) -> Result<(TokenKind, &[u8]), Memory>
     requires { length here.now ≤ total }
-    ensures { IfOk result (λ x. Reads total here.now x.0 x.1.now) }
+    ensures { IfOk result (λ x. ReadsToken total here.now x.0 x.1.now) }
 {
     let Some((byte, later)) = first(here) else {
         return Ok((TokenKind::End, here));
@@ -48,7 +48,7 @@ fn word<'a>(
 ) -> Result<(TokenKind, &'a [u8]), Memory>
     requires parts { here.now ≡ byte ∷ later.now }
     requires letter { is_ascii_lowercase byte ≡ true }
-    ensures { IfOk result (λ x. Begins x.0 here.now x.1.now) }
+    ensures { IfOk result (λ x. TokenBegins x.0 here.now x.1.now) }
 {
     let (word, rest) = here.split_at(word_len(here));
     Ok((word_kind(alloc, word)?, rest))
@@ -111,7 +111,7 @@ fn short_text(alloc: Global, text: &str) -> Result<Text, Memory>
 fn number<'a>(here: &'a [u8], byte: u8, later: &'a [u8]) -> (TokenKind, &'a [u8])
     requires parts { here.now ≡ byte ∷ later.now }
     requires digit { is_ascii_digit byte ≡ true }
-    ensures { Begins result.0 here.now result.1.now }
+    ensures { TokenBegins result.0 here.now result.1.now }
 {
     let (digits, rest) = here.split_at(digits_len(here));
     (TokenKind::Number(value_of(digits)), rest)
@@ -151,7 +151,7 @@ fn string<'a>(
 ) -> Result<(TokenKind, &'a [u8]), Memory>
     requires quote { here.now ≡ 34 ∷ later.now }
     requires place { length here.now ≤ total }
-    ensures { IfOk result (λ x. Reads total here.now x.0 x.1.now) }
+    ensures { IfOk result (λ x. ReadsToken total here.now x.0 x.1.now) }
 {
     let (content, left) = inside(alloc, later)?;
     match first(left) {
@@ -190,7 +190,7 @@ fn sign<'a>(here: &'a [u8], byte: u8, later: &'a [u8]) -> (TokenKind, &'a [u8])
     requires no_letter { is_ascii_lowercase byte ≡ false }
     requires no_digit { is_ascii_digit byte ≡ false }
     requires no_quote { byte ≡ 34 → ⊥ }
-    ensures { (n : ℕ) → Reads n here.now result.0 result.1.now }
+    ensures { (n : ℕ) → ReadsToken n here.now result.0 result.1.now }
 {
     if byte == b'<' {
         return less(here, later);
@@ -204,7 +204,7 @@ fn sign<'a>(here: &'a [u8], byte: u8, later: &'a [u8]) -> (TokenKind, &'a [u8])
 // The sign that begins here with `<`.
 fn less<'a>(here: &'a [u8], later: &'a [u8]) -> (TokenKind, &'a [u8])
     requires { here.now ≡ 60 ∷ later.now }
-    ensures { Begins result.0 here.now result.1.now }
+    ensures { TokenBegins result.0 here.now result.1.now }
 {
     match first(later) {
         Some((b'=', rest)) => (TokenKind::Sign(Sign::AtMost), rest),

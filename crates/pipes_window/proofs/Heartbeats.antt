@@ -27,7 +27,7 @@ use Rattle.pipes_window.proofs.Rising.{waiting_up_to, slice_get-below}
 use Rattle.pipes_window.proofs.Splits.{Reach, within, past, reach, known_of-few, split}
 use Rattle.pipes_window.proofs.Snapshots.{spans_are_rows, same_bag}
 
-starts_lower : (low high : ℕ) (elems : List Elem) → low ≤ high → StartsFrom high elems
+pub starts_lower : (low high : ℕ) (elems : List Elem) → low ≤ high → StartsFrom high elems
     → StartsFrom low elems
 starts_lower low high [] h up = tt
 starts_lower low high (elem ∷ rest) h up = (let l = up.0 in omega arith, up.1)

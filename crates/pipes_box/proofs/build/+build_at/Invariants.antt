@@ -1,5 +1,15 @@
+use Rattle.std.proofs.Common.{◌+◌}
 use Rattle.pipes_plan.specs.declared.plan.Plan.{size-Plan}
 use Rattle.pipes_box.proofs.build.+build_at.Given as goal
 
 abbrev pub decreases-build_at : goal.decreases-build_at
-decreases-build_at l = size-Plan l.plan.now
+decreases-build_at l = size-Plan l.plan.now + size-Plan l.plan.now + 1
+
+abbrev pub decreases-build_filter : goal.decreases-build_filter
+decreases-build_filter l = size-Plan l.plan.now + size-Plan l.plan.now
+
+abbrev pub decreases-build_map : goal.decreases-build_map
+decreases-build_map l = size-Plan l.plan.now + size-Plan l.plan.now
+
+abbrev pub decreases-build_union : goal.decreases-build_union
+decreases-build_union l = size-Plan l.plan.now + size-Plan l.plan.now

@@ -19,8 +19,9 @@ returns c =
     ap (λ (xs : List (List Kind)). get_or xs c.args.source s) (sym c.as_slice.ensures.value)
     ∙ sym c.index-as_slice-source.is ∙ sym c.in_ok-schema.ensures
     ∙ sym c.in_ok-part.ensures.schema in
-    built-source ss c.args.plan.now c.args.source c.args.nodes.now.items
+    built-source ss c.args.plan.now c.args.source c.args.spot.number c.args.spot.depth
+    c.args.nodes.now.items
     c.add_source.new.nodes.items c.args.leaves.now.items c.add_source.new.leaves.items
     c.in_ok-part.part c.requires.source
-    (subst (λ (k : List Kind). slice_get ss c.args.source ≡ Some k) read r.1)
+    (subst (λ (k : List Kind). slice_get ss c.args.source ≡ Some k) read r.1) c.requires.shallow
     c.in_ok-part.ensures.nodes c.in_ok-part.ensures.root c.in_ok-part.ensures.leaves

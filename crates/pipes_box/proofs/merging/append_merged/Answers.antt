@@ -1,6 +1,6 @@
 use Rattle.std.proofs.Common.{rules, ◌≡◌, ◌++◌, ◌∷◌, [], List, refl, sym, ◌∙◌, ap, subst}
 use Rattle.pipes_stream.specs.declared.message.Message.{Message}
-use Rattle.pipes_box.specs.Merging.{Merged}
+use Rattle.pipes_box.specs.Merging.{MergedOne}
 use Rattle.pipes_box.proofs.Merges.{merged-push, merged-needless, merged-set, set-kept}
 use Rattle.pipes_box.proofs.merging.append_merged.Goals as goal
 use Rattle.pipes_box.proofs.merging.append_merged.Goals.{in-Some+in_default-last}
@@ -8,7 +8,7 @@ use Rattle.pipes_box.proofs.merging.append_merged.Goals.{in_default-back_mut}
 
 pub returns-then-at-level-clause-merged : goal.returns-then-at-level-clause-merged
 returns-then-at-level-clause-merged c =
-    subst (λ (m : Message). Merged c.args.pending.now.items c.args.level.now m
+    subst (λ (m : Message). MergedOne c.args.pending.now.items c.args.level.now m
     c.args.pending.now.items c.args.level.now) (sym c.in-Beat.is)
     (merged-needless c.args.pending.now.items c.in-Beat.at c.args.level.now c.args.pending.now.items
     c.if-at-level.true refl)

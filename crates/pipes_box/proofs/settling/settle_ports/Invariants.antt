@@ -1,6 +1,6 @@
 use Rattle.std.proofs.Common.{◌≡◌, ◌<◌, ℕ, List, length, get_or}
 use Rattle.pipes_box.specs.declared.node.Node.{Node}
-use Rattle.pipes_box.specs.Networks.{IsLinked, Settles}
+use Rattle.pipes_box.specs.Networks.{IsLinked, SettlesPorts}
 use Rattle.pipes_box.proofs.settling.settle_ports.Given as goal
 
 abbrev pub invariant-loop-port : goal.invariant-loop-port
@@ -9,6 +9,6 @@ invariant-loop-port l = record {
   linked : IsLinked l.nodes;
   ports : (d : Node) → length (get_or l.nodes l.parent d).ports.items ≡ length
       (get_or l.initial.nodes l.parent d).ports.items;
-  settles : (first : List Node) → Settles first l.initial.nodes l.parent 0
-      → Settles first l.nodes l.parent l.port;
+  settles : (first : List Node) → SettlesPorts first l.initial.nodes l.parent 0
+      → SettlesPorts first l.nodes l.parent l.port;
 }

@@ -2,7 +2,7 @@ use Rattle.std.proofs.Common.{rules, ◌≡◌, List, Some, None, length, slice_
 use Rattle.std.proofs.Common.{sym, ap, ◌∙◌}
 use Rattle.pipes_tuple.specs.declared.value.Value.{Value}
 use Rattle.pipes_stream.specs.declared.Elem.{Elem}
-use Rattle.pipes_coalesce.specs.Filed.{Entries, AreFiled, Finds, contents}
+use Rattle.pipes_coalesce.specs.Filed.{Entries, AreFiled, TakesOfTuple, contents}
 use Rattle.pipes_coalesce.proofs.Filing.{entry-there, gone-filed, only-result}
 use Rattle.pipes_coalesce.proofs.by_tuple.take_only.Goals as goal
 
@@ -21,7 +21,7 @@ returns-in-Some-clause-found c =
     let p : List Value × List Elem = (c.in-Some.field-0-0, c.in-Some.queue) in
     let at : slice_get es c.args.place ≡ Some p = sym c.swap_remove_index.ensures.entry
     ∙ c.in-Some.is in
-    subst (λ (fs : Entries). Finds c.args.tuple.now (contents es) (contents fs) c.pop.result)
+    subst (λ (fs : Entries). TakesOfTuple c.args.tuple.now (contents es) (contents fs) c.pop.result)
     (sym c.in-Some.ensures.entries)
     (only-result es c.args.place c.args.tuple.now p c.pop.result c.pop.new.self c.requires.filed
     c.requires.place at c.pop.ensures)

@@ -1,6 +1,7 @@
+use Rattle.std.proofs.lemmas.Result.{on_err_weaker}
 use Rattle.std.proofs.Common.{rules, refl, []}
 use Rattle.std.proofs.KnownBytes.{Appends-nil}
-use Rattle.pipes_buffer.proofs.Appended.{on_err, map_err, map_ok}
+use Rattle.pipes_buffer.proofs.Appended.{on_err, map_ok}
 use Rattle.pipes_error.proofs.Names.{said-more, said-prefix, said-end, said-end-prefix}
 use Rattle.pipes_error.proofs.name.write_escaped.Goals as goal
 
@@ -26,6 +27,6 @@ returns-clause-ok g c = map_ok c.write_all.result (λ ok. said-end _ _ _ c.args.
     c.runs.rest.now c.runs.invariant.said c.in_default.ensures.cases ok) c.write_all.ensures.ok
 
 pub returns-clause-prefix : goal.returns-clause-prefix
-returns-clause-prefix g c = map_err c.write_all.result (λ prefix. said-end-prefix _ _ _
+returns-clause-prefix g c = on_err_weaker c.write_all.result (λ prefix. said-end-prefix _ _ _
     c.args.name.now
     c.runs.rest.now c.runs.invariant.said c.in_default.ensures.cases prefix) c.write_all.ensures.err

@@ -1,7 +1,8 @@
+use Rattle.std.proofs.lemmas.Result.{on_err_weaker}
 use Rattle.std.proofs.Common.{◌++◌, List, ℕ, codes, subst}
 use Rattle.std.specs.Io.KnownBytes.{Appends}
 use Rattle.std.proofs.KnownBytes.{Appends-trans}
-use Rattle.pipes_buffer.proofs.Appended.{on_err, map_err, map_ok, prefix_as, prefix_in}
+use Rattle.pipes_buffer.proofs.Appended.{on_err, map_ok, prefix_as, prefix_in}
 use Rattle.pipes_buffer.proofs.Appended.{prefix_after}
 use Rattle.pipes_error.specs.Pieces.{spaced}
 use Rattle.pipes_error.proofs.Saying.{known_spaced}
@@ -37,6 +38,6 @@ returns-clause-prefix g c =
     let ps = c.args.pieces.now in
     let before = Appends-trans _ _ _ (codes "pipes:") (spaced ps) c.in_ok-write_all.ensures.ok
     c.in_ok-write_spaced.ensures.ok in
-    map_err c.write_all-2.result (λ prefix. prefix_as _ _ _ _ (known_spaced ps)
+    on_err_weaker c.write_all-2.result (λ prefix. prefix_as _ _ _ _ (known_spaced ps)
     (prefix_after _ _ _ (codes "pipes:" ++ spaced ps) (codes "\n") before prefix))
     c.write_all-2.ensures.err

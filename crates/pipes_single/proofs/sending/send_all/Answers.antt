@@ -1,9 +1,10 @@
+use Rattle.std.proofs.lemmas.Result.{on_err_weaker}
 use Rattle.std.proofs.Common.{rules, ◌≡◌, ◌∙◌, subst, List, ◌++◌, map, sym}
 use Rattle.std.proofs.lemmas.List.{map-id}
 use Rattle.std.proofs.lemmas.Iterator.Consumers.{YieldsList-turn, YieldsList-so_far, YieldsList-end}
 use Rattle.std.proofs.lemmas.Iterator.Adapters.{YieldsList-from_vec}
 use Rattle.pipes_stream.specs.declared.Elem.{Elem}
-use Rattle.pipes_buffer.proofs.Appended.{on_err, map_err, map_ok}
+use Rattle.pipes_buffer.proofs.Appended.{on_err, map_ok}
 use Rattle.pipes_single.specs.Sent.{passing}
 use Rattle.pipes_single.specs.Kept.{Keeps}
 use Rattle.pipes_single.specs.Ran.{source_kinds}

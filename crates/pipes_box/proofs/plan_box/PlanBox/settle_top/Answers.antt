@@ -23,6 +23,7 @@ returns-clause-sound c =
       nodes = with_item c.args.self.now.nodes root (with_outlet m out);
       top = c.settle.new.inlet;
       leaves = c.args.self.now.leaves;
+      ended = c.args.self.now.ended;
       failed =
           c.args.self.now.failed;
     } in
@@ -42,6 +43,7 @@ returns-clause-sound c =
       ends = c.settle.ensures.ends;
       taken_same = c.settle.ensures.inlet.0;
       leaves = refl;
+      ended = refl;
       failed = refl;
     }) m c.requires
 
@@ -57,6 +59,7 @@ returns-clause-stands c =
       nodes = with_item c.args.self.now.nodes root (with_outlet m out);
       top = c.settle.new.inlet;
       leaves = c.args.self.now.leaves;
+      ended = c.args.self.now.ended;
       failed =
           c.args.self.now.failed;
     } in
@@ -76,6 +79,7 @@ returns-clause-stands c =
       ends = c.settle.ensures.ends;
       taken_same = c.settle.ensures.inlet.0;
       leaves = refl;
+      ended = refl;
       failed = refl;
     }) m c.requires
 
@@ -91,6 +95,7 @@ returns-clause-looks c =
       nodes = with_item c.args.self.now.nodes root (with_outlet m out);
       top = c.settle.new.inlet;
       leaves = c.args.self.now.leaves;
+      ended = c.args.self.now.ended;
       failed =
           c.args.self.now.failed;
     } in
@@ -110,5 +115,6 @@ returns-clause-looks c =
       ends = c.settle.ensures.ends;
       taken_same = c.settle.ensures.inlet.0;
       leaves = refl;
+      ended = refl;
       failed = refl;
     }) m c.settle.ensures.inlet.2 c.settle.ensures.all_known

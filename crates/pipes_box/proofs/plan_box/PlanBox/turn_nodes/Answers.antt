@@ -24,6 +24,7 @@ returns-clause-sound g c =
       top = old.top;
       leaves =
           old.leaves;
+      ended = old.ended;
       failed = c.has_failed-self.result;
     } in
     let turned' : (k : ℕ) (d : Node) → k < length old.nodes.items
@@ -31,11 +32,13 @@ returns-clause-sound g c =
     subst (λ (ns : List Node). (k : ℕ) (d : Node) → k < length old.nodes.items
     → NodeTurned (get_or old.nodes.items k d) (get_or ns k d)) (sym written) turned in
     let count' : length new.nodes.items ≡ length old.nodes.items = ap length written ∙ count in
-    renews-sound old new (turned-renews old new c.requires.sound count' turned' refl refl)
+    renews-sound old new (turned-renews old new c.requires.sound count' turned' refl refl refl
+    (λ going. subst (λ (ns : List Node). (k : ℕ) (d : Node) → k < length ns
+    → (get_or ns k d).failed ≡ false) c.as_slice.ensures.value (c.has_failed-self.ensures going)))
     c.requires.sound
 
 pub returns-clause-stands : goal.returns-clause-stands
-returns-clause-stands g c = λ going.
+returns-clause-stands g c =
     let old : PlanBox = c.args.self.now in
     let ws : List Node = c.turn_all.new.nodes in
     let value : c.as_mut_slice.result.now ≡ old.nodes.items = c.as_mut_slice.ensures.value in
@@ -51,6 +54,7 @@ returns-clause-stands g c = λ going.
       top = old.top;
       leaves =
           old.leaves;
+      ended = old.ended;
       failed = c.has_failed-self.result;
     } in
     let turned' : (k : ℕ) (d : Node) → k < length old.nodes.items
@@ -58,9 +62,9 @@ returns-clause-stands g c = λ going.
     subst (λ (ns : List Node). (k : ℕ) (d : Node) → k < length old.nodes.items
     → NodeTurned (get_or old.nodes.items k d) (get_or ns k d)) (sym written) turned in
     let count' : length new.nodes.items ≡ length old.nodes.items = ap length written ∙ count in
-    turned-stands old new c.requires.sound count' turned' refl refl going
-    (subst (λ (ns : List Node). (k : ℕ) (d : Node) → k < length ns → (get_or ns k d).failed ≡ false)
-    c.as_slice.ensures.value (c.has_failed-self.ensures going))
+    turned-stands old new c.requires.sound count' turned' refl refl refl
+    (λ going. subst (λ (ns : List Node). (k : ℕ) (d : Node) → k < length ns
+    → (get_or ns k d).failed ≡ false) c.as_slice.ensures.value (c.has_failed-self.ensures going))
 
 pub returns-clause-turned : goal.returns-clause-turned
 returns-clause-turned g c = λ going.

@@ -1,9 +1,9 @@
 use Rattle.std.proofs.Common.{ap}
-use Rattle.pipes_pair.specs.Joins.{task_of}
+use Rattle.pipes_pair.specs.Joins.{matching_task}
 use Rattle.pipes_pair.proofs.join.JoinOperator.take.Goals as goal
 
 pub returns-clause-same_task : goal.returns-clause-same_task
-returns-clause-same_task c = ap task_of c.take_with.ensures.same
+returns-clause-same_task c = ap matching_task c.take_with.ensures.same
 
 pub returns-clause-takes : goal.returns-clause-takes
 returns-clause-takes c = c.take_with.ensures.takes

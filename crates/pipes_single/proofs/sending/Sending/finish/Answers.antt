@@ -1,4 +1,5 @@
-use Rattle.pipes_buffer.proofs.Appended.{on_err, map_err, map_ok}
+use Rattle.std.proofs.lemmas.Result.{on_err_weaker}
+use Rattle.pipes_buffer.proofs.Appended.{on_err, map_ok}
 use Rattle.pipes_single.specs.Kept.{form_of}
 use Rattle.pipes_single.specs.Sent.{sent}
 use Rattle.pipes_single.specs.Taking.{window_of}
@@ -37,7 +38,7 @@ returns-clause-ok g c =
 pub returns-clause-err : goal.returns-clause-err
 returns-clause-err g c =
     let query = c.args.query.now in
-    map_err c.end.result (λ err init taken s.
+    on_err_weaker c.end.result (λ err init taken s.
     stopped_last query init _ c.args.self taken c.requires.runnable s _ c.finish.new.out.items
     c.in_ok-finish.ensures.finishes (g.K.Sink.written c.end.new.out)
     (form_of c.send_all.new.results) c.args.last.now c.send_all.ensures.form c.requires.last

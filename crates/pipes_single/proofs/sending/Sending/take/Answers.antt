@@ -1,5 +1,6 @@
+use Rattle.std.proofs.lemmas.Result.{on_err_weaker}
 use Rattle.std.proofs.Common.{inl, inr}
-use Rattle.pipes_buffer.proofs.Appended.{on_err, map_err, map_ok}
+use Rattle.pipes_buffer.proofs.Appended.{on_err, map_ok}
 use Rattle.pipes_single.specs.Sent.{sent}
 use Rattle.pipes_single.specs.Taking.{window_of}
 use Rattle.pipes_single.proofs.Running.{typed_of, found_fits, stopped_here, stopped_at, sends_some}
@@ -29,7 +30,7 @@ returns-in-Some-clause-ok g c =
 
 pub returns-in-Some-clause-err : goal.returns-in-Some-clause-err
 returns-in-Some-clause-err g c =
-    map_err c.send.result (λ err init taken s.
+    on_err_weaker c.send.result (λ err init taken s.
     inr (stopped_at c.args.query.now init _ c.args.self.now taken s c.take_one.new.window
     c.args.item _ c.in_ok-elem.ensures.takes c.requires.fits _ c.in-Some.elem
     c.requires.runnable c.in-Some.is

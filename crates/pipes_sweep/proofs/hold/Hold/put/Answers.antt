@@ -2,7 +2,7 @@ use Rattle.std.proofs.Common.{rules, ◌≡◌, ℕ, ◌≤◌, List, length, sy
 use Rattle.std.specs.VecDeque.{deque_len}
 use Rattle.pipes_stream.specs.declared.Elem.{Elem}
 use Rattle.pipes_sweep.specs.Waiting.{StartsRise}
-use Rattle.pipes_sweep.proofs.Places.{rise-placed}
+use Rattle.pipes_sweep.proofs.Places.{rise_placed}
 use Rattle.pipes_sweep.proofs.hold.Hold.put.Goals as goal
 use Rattle.pipes_sweep.proofs.hold.Hold.put.Goals.{in-Ok, in-Err}
 
@@ -13,7 +13,7 @@ invariant_of-self c =
           (let within : c.count_due-place.result ≤ length c.self.inside.waiting.items =
           search rules in
           subst (λ (es : List Elem). StartsRise es) (sym w.in-Ok.ensures.items)
-          (rise-placed c.args.elem c.self.inside.waiting.items c.count_due-place.result
+          (rise_placed c.args.elem c.self.inside.waiting.items c.count_due-place.result
           c.self.invariant within (search rules) (search rules)))
       | in-Err w ↦ subst (λ (es : List Elem). StartsRise es) (search rules) c.self.invariant
     ]

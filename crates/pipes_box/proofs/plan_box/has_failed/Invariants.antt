@@ -1,6 +1,0 @@
-use Rattle.std.proofs.Common.{◌≡◌, ◌<◌, ℕ, false, get_or}
-use Rattle.pipes_box.specs.declared.node.Node.{Node}
-use Rattle.pipes_box.proofs.plan_box.has_failed.Given as goal
-
-abbrev pub invariant-loop-k : goal.invariant-loop-k
-invariant-loop-k l = (j : ℕ) (d : Node) → j < l.k → (get_or l.nodes j d).failed ≡ false

@@ -1,0 +1,13 @@
+use Rattle.std.proofs.Common.{arith}
+use Rattle.pipes_box.specs.declared.node.Node.{Node}
+use Rattle.pipes_box.proofs.Totals.{sum-more}
+use Rattle.pipes_box.proofs.sums.total_moved.Goals as goal
+
+pub loop-node-preserved : goal.loop-node-preserved
+loop-node-preserved c =
+    omega (
+      arith,
+      c.loop-node.invariant,
+      sum-more (λ (n : Node). n.moved) c.args.nodes.now
+          c.loop-node.node-index c.node-item.result (omega arith) c.node-item.is,
+    )

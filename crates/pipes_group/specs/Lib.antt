@@ -1,0 +1,15 @@
+pub mod Tasks
+pub mod Dues
+pub mod Covers
+pub mod CoverLaw
+pub mod CoverMoves
+pub mod Counts
+pub mod Distincts
+pub mod DistinctLaw
+pub mod Values
+pub mod Parts
+pub mod Groups
+pub mod GroupLaw
+pub mod TallyLaw
+pub mod Grouped
+pub mod GroupedLaw

@@ -1,5 +1,0 @@
-use Rattle.pipes_split.specs.Seats.{IsSeatOf}
-use Rattle.pipes_rows_merges.proofs.splits.finds_above.Given as goal
-
-abbrev pub invariant-ends : goal.invariant-ends
-invariant-ends l = IsSeatOf l.book l.seat

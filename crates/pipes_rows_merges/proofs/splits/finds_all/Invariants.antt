@@ -1,5 +1,0 @@
-use Rattle.pipes_split.specs.Seats.{IsSeatOf}
-use Rattle.pipes_rows_merges.proofs.splits.finds_all.Given as goal
-
-abbrev pub invariant-splits : goal.invariant-splits
-invariant-splits l = IsSeatOf l.book l.seat

@@ -1,0 +1,5 @@
+//! Worked examples of what is printed. It has tests alone.
+#![tactic(auto)]
+
+#[cfg(test)]
+mod entries;

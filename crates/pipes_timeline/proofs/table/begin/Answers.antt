@@ -1,0 +1,12 @@
+use Rattle.std.proofs.Common.{refl}
+use Rattle.pipes_timeline.proofs.Calling.{from-ok, begins}
+use Rattle.pipes_timeline.proofs.table.begin.Goals as goal
+
+pub returns : goal.returns
+returns g c =
+    from-ok c.settle.result
+    (begins (g.R.Rule.rule c.args.rule.now) (g.R.Rule.tells c.args.rule.now) c.args.now
+    c.args.key.now (g.met.R.Rule.stays c.args.rule.now) c.args.slot.now c.release.new.slot _
+    c.settle.new.slot c.args.pieces.now c.release.new.pieces c.settle.new.pieces
+    (c.args.port, c.args.elem.now) c.in_ok-release.ensures refl c.in_ok-add.ensures)
+    c.settle.ensures

@@ -1,0 +1,15 @@
+pub mod Weights
+pub mod Rules
+pub mod Ends
+pub mod Filed
+pub mod Lines
+pub mod Queues
+pub mod Tables
+pub mod Reached
+pub mod Timelines
+pub mod WeightLaws
+pub mod LineMoves
+pub mod LineChanges
+pub mod LineOpens
+pub mod Stands
+pub mod Feeding
