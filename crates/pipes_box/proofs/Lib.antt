@@ -4,6 +4,7 @@ pub mod Passed
 pub mod Emitting
 pub mod NodeSteps
 pub mod Stood
+pub mod Sent
 pub mod Answering
 pub mod Network
 pub mod Prompting

@@ -1,5 +1,5 @@
 -- A plan as the tasks of its nodes, and what it means over lists given at its leaves.
-use Rattle.std.specs.Prelude.{◌≡◌, ℕ, ◌+◌, ◌<◌, Bool, true, false, ◌&&◌, cond, eqb, List, []}
+use Rattle.std.specs.Prelude.{◌≡◌, ℕ, ◌+◌, ◌<◌, cond, eqb, List, []}
 use Rattle.std.specs.Prelude.{◌∷◌, ◌++◌}
 use Rattle.std.specs.Prelude.{slice_get, unwrap_or}
 use Rattle.std.specs.List.{All}
@@ -17,6 +17,9 @@ use Rattle.pipes_plan.specs.declared.plan.Plan.TheOpen.{Plan-F, Source, Filter, 
 use Rattle.pipes_plan.specs.declared.plan.Plan.TheOpen.{Distinct, Group, Minus}
 use Rattle.pipes_plan.specs.Algebra.{alg}
 use Rattle.pipes_flat.specs.Tasks.{filter_task, map_task, union_task}
+use Rattle.pipes_pair.specs.Tasks.{join_task}
+use Rattle.pipes_group.specs.Tasks.{distinct_task, group_task}
+use Rattle.pipes_minus.specs.Tasks.{minus_task}
 
 -- The leaves are sources, each with its number and the kinds of its tuples.
 pub data Shape : Type 0 where
@@ -36,27 +39,13 @@ shape_step schemas (Source i) = Leaf i (unwrap_or (slice_get schemas i) [])
 shape_step schemas (Filter p a) = One (filter_task p (gives_of a)) a
 shape_step schemas (Map es a) = One (map_task es (gives_of a)) a
 shape_step schemas (Union a b) = Two (union_task (gives_of a)) a b
-shape_step schemas (Join k c a b) = a
-shape_step schemas (Distinct a) = a
-shape_step schemas (Group k g a) = a
-shape_step schemas (Minus a b) = a
+shape_step schemas (Join k c a b) = Two (join_task k c (gives_of a) (gives_of b)) a b
+shape_step schemas (Distinct a) = One (distinct_task (gives_of a)) a
+shape_step schemas (Group k g a) = One (group_task k g (gives_of a)) a
+shape_step schemas (Minus a b) = Two (minus_task (gives_of a)) a b
 
 abbrev pub shape_of : List (List Kind) → Plan → Shape
 shape_of schemas = fold-Plan Shape (shape_step schemas)
-
--- whether each node of the plan is of a kind whose operator is built
-abbrev pub built_step : Plan-F Bool → Bool
-built_step (Source i) = true
-built_step (Filter p a) = a
-built_step (Map es a) = a
-built_step (Union a b) = a && b
-built_step (Join k c a b) = false
-built_step (Distinct a) = false
-built_step (Group k g a) = false
-built_step (Minus a b) = false
-
-abbrev pub is_built : Plan → Bool
-is_built = fold-Plan Bool built_step
 
 abbrev pub node_count : Shape → ℕ
 node_count (Leaf source kinds) = 1

@@ -6,10 +6,12 @@ ghost use Rattle.pipes_plan.specs.PlanKinds.{IsTyped, plan_kinds};
 ghost use Rattle.pipes_plan.specs.Sizes.{plan_nodes, plan_depth};
 ghost use Rattle.pipes_box.specs.Operators.{task_of};
 ghost use Rattle.pipes_box.specs.Nodes.{ports_of, task_in};
-ghost use Rattle.pipes_box.specs.Shapes.{is_built};
 ghost use Rattle.pipes_box.specs.Parts.{Adds, AddsOver, AddsTask, CanBuild, IsPortOf};
 ghost use Rattle.pipes_box.specs.Parts.{PartBuilt};
 ghost use Rattle.pipes_flat.specs.Tasks.{filter_task, map_task, union_task};
+ghost use Rattle.pipes_pair.specs.Tasks.{join_task};
+ghost use Rattle.pipes_group.specs.Tasks.{distinct_task, group_task};
+ghost use Rattle.pipes_minus.specs.Tasks.{minus_task};
 ghost use Rattle.pipes_plan.specs.declared.plan.Plan.TheVariants as plans;
 
 use crate::leaf::Leaf;
@@ -17,11 +19,14 @@ use crate::node::Node;
 use crate::operator::PlanOperator;
 use crate::port::Port;
 use pipes_flat::{Filter, Map, Union};
+use pipes_group::{Distinct, Group};
 use pipes_link::{Inlet, link};
-use pipes_plan::{Expr, Exprs, Plan, Schemas, copy_exprs};
+use pipes_minus::Minus;
+use pipes_pair::Join;
+use pipes_plan::{Aggs, Expr, Exprs, Pairs, Plan, Schemas, copy_exprs};
 use pipes_stream::{Message, Watch};
 use pipes_time::Memory;
-use pipes_tuple::Schema;
+use pipes_tuple::{Cols, Schema};
 use std::alloc::Global;
 use std::collections::VecDeque;
 
@@ -232,6 +237,85 @@ fn union_over(
     add_two(spot, nodes, PlanOperator::Union(union), left, right, schema)
 }
 
+// A join of two parts, which sends tuples of the schema.
+fn join_over(
+    spot: Spot,
+    pairs: &Pairs,
+    condition: &Expr,
+    left: Part,
+    right: Part,
+    schema: Schema,
+    nodes: &mut Vec<Node>,
+) -> Result<Part, Memory>
+    requires { IsTyped (plans.Join pairs.now condition.now (plans.Source 0) (plans.Source 1))
+        (left.schema ∷ right.schema ∷ []) }
+    ensures adds { IfOk result (λ whole. AddsTask spot.number spot.depth nodes.old.items
+        nodes.new.items (join_task pairs.now condition.now left.schema right.schema)
+        (left ∷ right ∷ []) whole) }
+    ensures schema { IfOk result (λ whole. whole.schema ≡ schema) }
+{
+    let pairs = pairs.copy()?;
+    let condition = condition.copy(spot.alloc)?;
+    let left_schema = left.schema.copy()?;
+    let right_schema = right.schema.copy()?;
+    let join = Join::new(spot.alloc, pairs, condition, left_schema, right_schema)?;
+    let whole = add_two(spot, nodes, PlanOperator::Join(join), left, right, schema)?;
+    Ok(whole)
+}
+
+// Each tuple of a part once.
+fn distinct_over(
+    spot: Spot,
+    part: Part,
+    schema: Schema,
+    nodes: &mut Vec<Node>,
+) -> Result<Part, Memory>
+    ensures adds { IfOk result (λ whole. AddsTask spot.number spot.depth nodes.old.items
+        nodes.new.items (distinct_task part.schema) (part ∷ []) whole) }
+    ensures schema { IfOk result (λ whole. whole.schema ≡ schema) }
+{
+    let distinct = Distinct::new(spot.alloc, part.schema.copy()?)?;
+    add_one(spot, nodes, PlanOperator::Distinct(distinct), part, schema)
+}
+
+// The groups of a part, which sends tuples of the schema.
+fn group_over(
+    spot: Spot,
+    columns: &Cols,
+    aggs: &Aggs,
+    part: Part,
+    schema: Schema,
+    nodes: &mut Vec<Node>,
+) -> Result<Part, Memory>
+    requires { IsTyped (plans.Group columns.now aggs.now (plans.Source 0)) (part.schema ∷ []) }
+    ensures adds { IfOk result (λ whole. AddsTask spot.number spot.depth nodes.old.items
+        nodes.new.items (group_task columns.now aggs.now part.schema) (part ∷ []) whole) }
+    ensures schema { IfOk result (λ whole. whole.schema ≡ schema) }
+{
+    let columns = columns.copy()?;
+    let aggs = aggs.copy()?;
+    let below = part.schema.copy()?;
+    let group = Group::new(spot.alloc, columns, aggs, below)?;
+    let whole = add_one(spot, nodes, PlanOperator::Group(group), part, schema)?;
+    Ok(whole)
+}
+
+// The difference of two parts, which sends tuples of the schema.
+fn minus_over(
+    spot: Spot,
+    left: Part,
+    right: Part,
+    schema: Schema,
+    nodes: &mut Vec<Node>,
+) -> Result<Part, Memory>
+    ensures adds { IfOk result (λ whole. AddsTask spot.number spot.depth nodes.old.items
+        nodes.new.items (minus_task left.schema) (left ∷ right ∷ []) whole) }
+    ensures schema { IfOk result (λ whole. whole.schema ≡ schema) }
+{
+    let minus = Minus::new(spot.alloc, left.schema.copy()?)?;
+    add_two(spot, nodes, PlanOperator::Minus(minus), left, right, schema)
+}
+
 // A source, with the schema of its number.
 fn source_at(
     spot: Spot,
@@ -339,6 +423,112 @@ fn build_union(
     Ok(whole)
 }
 
+// Makes the nodes of a join, and their links.
+#[cycle(build_at)]
+fn build_join(
+    spot: Spot,
+    next: &mut u32,
+    plan: &Plan,
+    pairs: &Pairs,
+    condition: &Expr,
+    a: &Plan,
+    b: &Plan,
+    schemas: &Schemas,
+    nodes: &mut Vec<Node>,
+    leaves: &mut Vec<Leaf>,
+) -> Result<Part, Memory>
+    requires is { plan.now ≡ plans.Join pairs.now condition.now a.now b.now }
+    requires can { CanBuild schemas.now plan.now spot.number spot.depth next.old }
+    ensures built { IfOk result (λ part. PartBuilt schemas.now plan.now spot.number spot.depth
+        nodes.old.items nodes.new.items leaves.old.items leaves.new.items part) }
+    ensures next { OnOk result (next.new ≡ spot.number + plan_nodes plan.now) }
+{
+    let first = spot.child(next);
+    let left = build_at(first, next, a, schemas, nodes, leaves)?;
+    let second = spot.child(next);
+    let right = build_at(second, next, b, schemas, nodes, leaves)?;
+    let schema = schema_of(spot.alloc, plan, schemas)?;
+    let whole = join_over(spot, pairs, condition, left, right, schema, nodes)?;
+    Ok(whole)
+}
+
+// Makes the nodes of a distinct, and their links.
+#[cycle(build_at)]
+fn build_distinct(
+    spot: Spot,
+    next: &mut u32,
+    plan: &Plan,
+    a: &Plan,
+    schemas: &Schemas,
+    nodes: &mut Vec<Node>,
+    leaves: &mut Vec<Leaf>,
+) -> Result<Part, Memory>
+    requires is { plan.now ≡ plans.Distinct a.now }
+    requires can { CanBuild schemas.now plan.now spot.number spot.depth next.old }
+    ensures built { IfOk result (λ part. PartBuilt schemas.now plan.now spot.number spot.depth
+        nodes.old.items nodes.new.items leaves.old.items leaves.new.items part) }
+    ensures next { OnOk result (next.new ≡ spot.number + plan_nodes plan.now) }
+{
+    let below = spot.child(next);
+    let part = build_at(below, next, a, schemas, nodes, leaves)?;
+    let schema = schema_of(spot.alloc, plan, schemas)?;
+    let whole = distinct_over(spot, part, schema, nodes)?;
+    Ok(whole)
+}
+
+// Makes the nodes of a group, and their links.
+#[cycle(build_at)]
+fn build_group(
+    spot: Spot,
+    next: &mut u32,
+    plan: &Plan,
+    columns: &Cols,
+    aggs: &Aggs,
+    a: &Plan,
+    schemas: &Schemas,
+    nodes: &mut Vec<Node>,
+    leaves: &mut Vec<Leaf>,
+) -> Result<Part, Memory>
+    requires is { plan.now ≡ plans.Group columns.now aggs.now a.now }
+    requires can { CanBuild schemas.now plan.now spot.number spot.depth next.old }
+    ensures built { IfOk result (λ part. PartBuilt schemas.now plan.now spot.number spot.depth
+        nodes.old.items nodes.new.items leaves.old.items leaves.new.items part) }
+    ensures next { OnOk result (next.new ≡ spot.number + plan_nodes plan.now) }
+{
+    let below = spot.child(next);
+    let part = build_at(below, next, a, schemas, nodes, leaves)?;
+    let schema = schema_of(spot.alloc, plan, schemas)?;
+    let whole = group_over(spot, columns, aggs, part, schema, nodes)?;
+    Ok(whole)
+}
+
+// Makes the nodes of a difference, and their links.
+#[cycle(build_at)]
+fn build_minus(
+    spot: Spot,
+    next: &mut u32,
+    plan: &Plan,
+    a: &Plan,
+    b: &Plan,
+    schemas: &Schemas,
+    nodes: &mut Vec<Node>,
+    leaves: &mut Vec<Leaf>,
+) -> Result<Part, Memory>
+    requires is { plan.now ≡ plans.Minus a.now b.now }
+    requires can { CanBuild schemas.now plan.now spot.number spot.depth next.old }
+    ensures built { IfOk result (λ part. PartBuilt schemas.now plan.now spot.number spot.depth
+        nodes.old.items nodes.new.items leaves.old.items leaves.new.items part) }
+    ensures next { OnOk result (next.new ≡ spot.number + plan_nodes plan.now) }
+{
+    let first = spot.child(next);
+    let left = build_at(first, next, a, schemas, nodes, leaves)?;
+    let second = spot.child(next);
+    let right = build_at(second, next, b, schemas, nodes, leaves)?;
+    let schema = schema_of(spot.alloc, plan, schemas)?;
+    let whole = minus_over(spot, left, right, schema, nodes)?;
+    Ok(whole)
+}
+
 // Makes the nodes of a plan, children before their parents, and their links. The root has its spot,
 // and `next` is the number after it.
 #[cycle(build_at)]
@@ -366,6 +556,36 @@ pub(crate) fn build_at(
         Plan::Union(a, b) => {
             build_union(spot, next, plan, a.get(), b.get(), schemas, nodes, leaves)
         }
-        _ => Err(Memory),
+        Plan::Join(pairs, condition, a, b) => {
+            build_join(
+                spot,
+                next,
+                plan,
+                pairs,
+                condition,
+                a.get(),
+                b.get(),
+                schemas,
+                nodes,
+                leaves,
+            )
+        }
+        Plan::Distinct(a) => build_distinct(spot, next, plan, a.get(), schemas, nodes, leaves),
+        Plan::Group(columns, aggs, a) => {
+            build_group(
+                spot,
+                next,
+                plan,
+                columns,
+                aggs,
+                a.get(),
+                schemas,
+                nodes,
+                leaves,
+            )
+        }
+        Plan::Minus(a, b) => {
+            build_minus(spot, next, plan, a.get(), b.get(), schemas, nodes, leaves)
+        }
     }
 }

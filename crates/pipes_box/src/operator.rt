@@ -1,5 +1,8 @@
 // The operators of a plan, in one type.
 use pipes_flat::{Filter, Map, Union};
+use pipes_group::{Distinct, Group};
+use pipes_minus::Minus;
+use pipes_pair::Join;
 use pipes_stream::{Message, Operator};
 use pipes_time::Memory;
 
@@ -9,6 +12,10 @@ pub enum PlanOperator {
     Filter(Filter),
     Map(Map),
     Union(Union),
+    Join(Join),
+    Distinct(Distinct),
+    Group(Group),
+    Minus(Minus),
 }
 
 impl Operator for PlanOperator {
@@ -29,6 +36,10 @@ impl Operator for PlanOperator {
             PlanOperator::Filter(filter) => filter.ports(),
             PlanOperator::Map(map) => map.ports(),
             PlanOperator::Union(union) => union.ports(),
+            PlanOperator::Join(join) => join.ports(),
+            PlanOperator::Distinct(distinct) => distinct.ports(),
+            PlanOperator::Group(group) => group.ports(),
+            PlanOperator::Minus(minus) => minus.ports(),
         }
     }
 
@@ -37,6 +48,10 @@ impl Operator for PlanOperator {
             PlanOperator::Filter(filter) => filter.take(port, message, out),
             PlanOperator::Map(map) => map.take(port, message, out),
             PlanOperator::Union(union) => union.take(port, message, out),
+            PlanOperator::Join(join) => join.take(port, message, out),
+            PlanOperator::Distinct(distinct) => distinct.take(port, message, out),
+            PlanOperator::Group(group) => group.take(port, message, out),
+            PlanOperator::Minus(minus) => minus.take(port, message, out),
         }
     }
 
@@ -45,6 +60,10 @@ impl Operator for PlanOperator {
             PlanOperator::Filter(filter) => filter.beat_now(),
             PlanOperator::Map(map) => map.beat_now(),
             PlanOperator::Union(union) => union.beat_now(),
+            PlanOperator::Join(join) => join.beat_now(),
+            PlanOperator::Distinct(distinct) => distinct.beat_now(),
+            PlanOperator::Group(group) => group.beat_now(),
+            PlanOperator::Minus(minus) => minus.beat_now(),
         }
     }
 
@@ -53,6 +72,10 @@ impl Operator for PlanOperator {
             PlanOperator::Filter(filter) => filter.held(),
             PlanOperator::Map(map) => map.held(),
             PlanOperator::Union(union) => union.held(),
+            PlanOperator::Join(join) => join.held(),
+            PlanOperator::Distinct(distinct) => distinct.held(),
+            PlanOperator::Group(group) => group.held(),
+            PlanOperator::Minus(minus) => minus.held(),
         }
     }
 }

@@ -14,7 +14,7 @@ ghost use Rattle.pipes_plan.specs.declared.plan.Plan.{Plan as Tree};
 ghost use Rattle.pipes_plan.specs.PlanKinds.{IsTyped};
 ghost use Rattle.pipes_plan.specs.Refusals.{Checks};
 ghost use Rattle.pipes_box.specs.Nodes.{held_in};
-ghost use Rattle.pipes_box.specs.Shapes.{is_built, shape_of, leaf_count, sources_of, Answers};
+ghost use Rattle.pipes_box.specs.Shapes.{shape_of, leaf_count, sources_of, Answers};
 ghost use Rattle.pipes_box.specs.Shapes.{FollowsPlan};
 
 use crate::build::{Part, Spot, build_at};
@@ -81,7 +81,6 @@ impl PlanBox {
     ) -> Result<PlanBox, Memory>
         requires typed { IsTyped plan.now schemas.now }
         requires checks { Checks schemas.now plan.now }
-        requires built { is_built plan.now ≡ true }
         requires some_room { 1 ≤ room }
         requires most_room { room ≤ MOST_ROOM }
         ensures sound { IfOk result (λ b. IsSound b) }
@@ -115,7 +114,7 @@ impl PlanBox {
             → Answers (shape_of schemas plan) 0 given got }
         ensures algebra { (schemas : List (List Kind)) (plan : Tree) (given : Lists)
             (got : List Sent) → BoxStands self.now schemas plan given got
-            → is_built plan ≡ true → FollowsPlan schemas plan given got }
+            → FollowsPlan schemas plan given got }
     {}
 
     /// A box in which nothing is on its way has answered as far as the leaves' heartbeats allow,

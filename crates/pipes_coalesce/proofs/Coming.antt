@@ -4,14 +4,14 @@ use Rattle.std.proofs.Common.{ap, ◌∙◌, subst, arith, inl, inr}
 use Rattle.std.proofs.lemmas.Bool.{cases_lt}
 use Rattle.pipes_time.specs.Interval.{horizon, IsInterval}
 use Rattle.pipes_stream.specs.declared.Elem.{Elem}
-use Rattle.pipes_coalesce.specs.Bags.{weigh}
+use Rattle.pipes_stream.specs.Weights.{weigh}
 use Rattle.pipes_coalesce.specs.Tests.{starts_above, starts_by, starts_elsewhere, ends_above}
 use Rattle.pipes_coalesce.specs.Tests.{ends_at, ends_elsewhere, is_no_interval, touch, touching}
 use Rattle.pipes_coalesce.specs.Filed.{has_tuple, Added, TakenOut}
 use Rattle.pipes_coalesce.specs.Joined.{IsJoint}
 use Rattle.pipes_coalesce.specs.Merging.{Pairing, IsPairing, Bags}
 use Rattle.pipes_coalesce.specs.Stands.{ElemsRiseFrom, count_of, Parts}
-use Rattle.pipes_coalesce.proofs.Weights.{weigh-append, weigh-none}
+use Rattle.pipes_stream.proofs.Weights.{weigh-append, weigh-none}
 use Rattle.pipes_coalesce.proofs.Touching.{not-lt, lt-zero, not-le, not-eq, is-else, else-zero}
 use Rattle.pipes_coalesce.proofs.Touching.{no-interval, zero-of, none-weighs}
 use Rattle.pipes_coalesce.proofs.Touching.{end-apart, start-apart, touched-tuple, touch-end}
@@ -189,7 +189,7 @@ module _ (t ob fb b s : ℕ) (olds lone partners later os fs ss : List Elem)
 
         in-partners : weigh (λ x. touch t x e) partners ≡ 0
         in-partners =
-            let sum = Rattle.pipes_coalesce.proofs.Weights.weigh-plus
+            let sum = Rattle.pipes_stream.proofs.Weights.weigh-plus
             (starts_elsewhere t) is_no_interval partners in
             zero-of (λ x. touch t x e) (λ x. starts_elsewhere t x + is_no_interval x) partners
             (λ x. touch-spans t x e)

@@ -19,10 +19,10 @@ use Rattle.pipes_tuple.specs.declared.value.Value.{Value}
 use Rattle.pipes_tuple.specs.Equal.{tuple_eq}
 use Rattle.pipes_tuple.proofs.Equality.{tuple_eq-Decides}
 use Rattle.pipes_stream.specs.declared.Elem.{Elem}
-use Rattle.pipes_coalesce.specs.Bags.{weigh}
+use Rattle.pipes_stream.specs.Weights.{weigh}
 use Rattle.pipes_coalesce.specs.Filed.{Entries, contents, HaveTuple, AreFiled, EntryAt, has_tuple}
 use Rattle.pipes_coalesce.specs.Filed.{Added, TakenOut, TakesOfTuple, QueueOut}
-use Rattle.pipes_coalesce.proofs.Weights.{weigh-append, weigh-one}
+use Rattle.pipes_stream.proofs.Weights.{weigh-append, weigh-length}
 
 -- ---- a queue
 pub have-push : (t : List Value) (es : List Elem) (e : Elem) → HaveTuple t es → e.tuple ≡ t
@@ -249,7 +249,7 @@ value-there (x ∷ es) (suc i) p h = value-there es i p h
 -- ---- lengths
 pub length-weights : (xs ys zs : List Elem)
     → weigh (λ _. 1) xs ≡ weigh (λ _. 1) ys + weigh (λ _. 1) zs → length xs ≡ length ys + length zs
-length-weights xs ys zs h = omega (arith, h, weigh-one xs, weigh-one ys, weigh-one zs)
+length-weights xs ys zs h = omega (arith, h, weigh-length xs, weigh-length ys, weigh-length zs)
 
 -- ---- what the calls do
 pub pushed-filed : (es : Entries) (i : ℕ) (e : Elem) (P : List Elem → Type 0) (q : List Elem)
@@ -366,8 +366,8 @@ reverse-length es =
     omega (
       arith,
       reverse-weights (λ _. 1) es,
-      weigh-one (contents (reverse es)),
-      weigh-one (contents es),
+      weigh-length (contents (reverse es)),
+      weigh-length (contents es),
     )
 
 -- the last queue is taken out
@@ -399,10 +399,10 @@ last-queue es fs count q l = record {
 }
 
 pub out-length : (e : Elem) (xs ys : List Elem) → TakenOut e xs ys → length xs ≡ 1 + length ys
-out-length e xs ys out = omega (arith, out (λ _. 1), weigh-one xs, weigh-one ys)
+out-length e xs ys out = omega (arith, out (λ _. 1), weigh-length xs, weigh-length ys)
 
 pub in-length : (e : Elem) (xs ys : List Elem) → Added e xs ys → length ys ≡ length xs + 1
-in-length e xs ys put = omega (arith, put (λ _. 1), weigh-one xs, weigh-one ys)
+in-length e xs ys put = omega (arith, put (λ _. 1), weigh-length xs, weigh-length ys)
 
 -- an element of a new tuple
 pub unfound : (es : Entries) (t : List Value) → position (tuple_eq t) (keys_of es) ≡ None

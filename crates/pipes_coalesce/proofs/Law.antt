@@ -18,7 +18,8 @@ use Rattle.pipes_stream.specs.Snapshot.{is_held, snapshot}
 use Rattle.pipes_stream.specs.Lists.{after, run, start_of_list, ValidFrom, Valid, beat, HasEnded}
 use Rattle.pipes_stream.specs.Lists.{elements}
 use Rattle.pipes_stream.proofs.Messages.{beat-closed, beat-ended}
-use Rattle.pipes_coalesce.specs.Bags.{weigh, SameMembers}
+use Rattle.pipes_stream.specs.Weights.{weigh}
+use Rattle.pipes_coalesce.specs.Bags.{SameMembers}
 use Rattle.pipes_coalesce.specs.Tests.{if_so, starts_below, starts_above, starts_by}
 use Rattle.pipes_coalesce.specs.Tests.{starts_elsewhere, ends_above, ends_at, ends_elsewhere}
 use Rattle.pipes_coalesce.specs.Tests.{goes_by, waits_below, is_no_interval, touch, touching}
@@ -29,7 +30,7 @@ use Rattle.pipes_coalesce.specs.Merged.{Outcome, Merged, SameAt, least_start}
 use Rattle.pipes_coalesce.specs.Stands.{ElemsRiseFrom, count_of, lone_from, now_of, held_of, Parts}
 use Rattle.pipes_coalesce.specs.Stands.{CoalesceStands}
 use Rattle.pipes_coalesce.specs.declared.merge.Coalesce.{Coalesce}
-use Rattle.pipes_coalesce.proofs.Weights.{weigh-append, weigh-same, weigh-le}
+use Rattle.pipes_stream.proofs.Weights.{weigh-append, weigh-same, weigh-le}
 use Rattle.pipes_coalesce.proofs.Touching.{not-lt, lt-zero, not-le, le-zero, else-zero, no-interval}
 use Rattle.pipes_coalesce.proofs.Touching.{interval-zero, zero-of, none-weighs, above-else}
 use Rattle.pipes_coalesce.proofs.Steps.{all-of, rises-below}

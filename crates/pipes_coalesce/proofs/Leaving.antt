@@ -3,12 +3,12 @@ use Rattle.std.proofs.Common.{◌≡◌, ◌≢◌, ◌⊎◌, ℕ, ◌+◌, ◌
 use Rattle.std.proofs.Common.{ap, ◌∙◌, subst, arith, inl, inr}
 use Rattle.pipes_time.specs.Interval.{horizon, IsInterval}
 use Rattle.pipes_stream.specs.declared.Elem.{Elem}
-use Rattle.pipes_coalesce.specs.Bags.{weigh}
+use Rattle.pipes_stream.specs.Weights.{weigh}
 use Rattle.pipes_coalesce.specs.Tests.{starts_above, starts_by, starts_elsewhere, ends_above}
 use Rattle.pipes_coalesce.specs.Tests.{ends_at, ends_elsewhere, is_no_interval, touch, touching}
 use Rattle.pipes_coalesce.specs.Merging.{Bags}
 use Rattle.pipes_coalesce.specs.Stands.{ElemsRiseFrom, count_of, Parts}
-use Rattle.pipes_coalesce.proofs.Weights.{weigh-append, weigh-none}
+use Rattle.pipes_stream.proofs.Weights.{weigh-append, weigh-none}
 use Rattle.pipes_coalesce.proofs.Touching.{not-lt, lt-zero, le-zero, not-eq, zero-of, none-weighs}
 use Rattle.pipes_coalesce.proofs.Touching.{touching-same, touching-across}
 use Rattle.pipes_coalesce.proofs.Pairs.{bags-same}
@@ -125,7 +125,7 @@ module _ (t ob fb b s : ℕ) (olds lone partners later os fs ss : List Elem)
     where
       partners-end : weigh (ends_at t) partners ≡ 0
       partners-end =
-          let sum = Rattle.pipes_coalesce.proofs.Weights.weigh-plus
+          let sum = Rattle.pipes_stream.proofs.Weights.weigh-plus
           (starts_elsewhere t) is_no_interval partners in
           zero-of (ends_at t) (λ x. starts_elsewhere t x + is_no_interval x) partners
           (λ x. Rattle.pipes_coalesce.proofs.Touching.end-spans t x)

@@ -1,4 +1,3 @@
-pub mod Weights
 pub mod Filing
 pub mod Touching
 pub mod Pairs

@@ -12,7 +12,7 @@ use Rattle.pipes_stream.specs.Progress.{Progress}
 use Rattle.pipes_stream.specs.Lists.{CanFollow, after, run, start_of_list, Valid, beat, elements}
 use Rattle.pipes_stream.proofs.Messages.{run-push, run-append, valid-push, valid-append}
 use Rattle.pipes_stream.proofs.Messages.{elements-append, elements-map}
-use Rattle.pipes_coalesce.specs.Bags.{weigh}
+use Rattle.pipes_stream.specs.Weights.{weigh}
 use Rattle.pipes_coalesce.specs.Tests.{starts_below, ends_above}
 use Rattle.pipes_coalesce.specs.Tests.{starts_elsewhere, is_no_interval}
 use Rattle.pipes_coalesce.specs.Stands.{count_of, Parts, Flows, Stays, Moves, SameBut}

@@ -3,9 +3,9 @@ use Rattle.std.proofs.Common.{◌≡◌, ℕ, ◌+◌, ◌≤◌, ◌<◌, cond,
 use Rattle.std.proofs.Common.{◌++◌, refl, sym, ap, ◌∙◌, arith}
 use Rattle.std.proofs.lemmas.Bool.Decides.{nat_tests}
 use Rattle.pipes_stream.specs.declared.Elem.{Elem}
-use Rattle.pipes_coalesce.specs.Bags.{weigh}
+use Rattle.pipes_stream.specs.Weights.{weigh}
 use Rattle.pipes_coalesce.specs.Merging.{Pairing, IsPairing, below_split, above_split, across, Bags}
-use Rattle.pipes_coalesce.proofs.Weights.{weigh-append}
+use Rattle.pipes_stream.proofs.Weights.{weigh-append}
 
 if-le : (n m x : ℕ) → n ≤ m → cond (nat_le n m) x 0 ≡ x
 if-le n m x h = grind (arith, nat_tests)

@@ -9,7 +9,7 @@ use Rattle.pipes_stream.specs.declared.message.Message.TheVariants as message
 use Rattle.pipes_stream.specs.Progress.{Progress}
 use Rattle.pipes_stream.specs.Lists.{run, start_of_list, beat, elements}
 use Rattle.pipes_stream.proofs.Messages.{run-push}
-use Rattle.pipes_coalesce.specs.Bags.{weigh}
+use Rattle.pipes_stream.specs.Weights.{weigh}
 use Rattle.pipes_coalesce.specs.Tests.{starts_elsewhere, is_no_interval}
 use Rattle.pipes_coalesce.specs.Stands.{count_of, lone_from, now_of, Parts, Flows, Stays, Moves}
 use Rattle.pipes_coalesce.specs.Stands.{SameBut, IsBlocked, IsDue, Releases}

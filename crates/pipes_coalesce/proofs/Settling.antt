@@ -14,7 +14,7 @@ use Rattle.pipes_stream.specs.Lists.{CanFollow, after, run, start_of_list, Valid
 use Rattle.pipes_stream.specs.Lists.{elements, HasEnded}
 use Rattle.pipes_stream.proofs.Messages.{run-append, run-rises, valid-append, valid-suffix}
 use Rattle.pipes_stream.proofs.Messages.{valid-prefix, elements-append, beat-closed, beat-ended}
-use Rattle.pipes_coalesce.specs.Bags.{weigh}
+use Rattle.pipes_stream.specs.Weights.{weigh}
 use Rattle.pipes_coalesce.specs.Tests.{starts_above, starts_by, ends_elsewhere, is_no_interval}
 use Rattle.pipes_coalesce.specs.Filed.{StartsLater}
 use Rattle.pipes_coalesce.specs.Stands.{ElemsRiseFrom, count_of, lone_from, now_of, Parts, Flows}

@@ -4,7 +4,7 @@ use Rattle.std.proofs.Common.{sym, ap, ◌∙◌, subst, arith, inl, inr, ◌⊎
 use Rattle.std.proofs.lemmas.Bool.{cases_lt}
 use Rattle.pipes_time.specs.Interval.{horizon, IsInterval}
 use Rattle.pipes_stream.specs.declared.Elem.{Elem}
-use Rattle.pipes_coalesce.specs.Bags.{weigh}
+use Rattle.pipes_stream.specs.Weights.{weigh}
 use Rattle.pipes_coalesce.specs.Tests.{if_so, starts_below, starts_above, starts_by}
 use Rattle.pipes_coalesce.specs.Tests.{starts_elsewhere, ends_above, ends_at, ends_elsewhere}
 use Rattle.pipes_coalesce.specs.Tests.{is_no_interval, touch, touching}
@@ -12,7 +12,7 @@ use Rattle.pipes_coalesce.specs.Filed.{has_tuple, Added, TakenOut}
 use Rattle.pipes_coalesce.specs.Joined.{IsJoint}
 use Rattle.pipes_coalesce.specs.Merging.{Pairing, IsPairing, Bags}
 use Rattle.pipes_coalesce.specs.Stands.{ElemsRiseFrom, count_of, Parts}
-use Rattle.pipes_coalesce.proofs.Weights.{weigh-append, weigh-none}
+use Rattle.pipes_stream.proofs.Weights.{weigh-append, weigh-none}
 use Rattle.pipes_coalesce.proofs.Touching.{not-lt, is-lt, lt-zero, not-le, le-zero, not-eq, is-else}
 use Rattle.pipes_coalesce.proofs.Touching.{else-zero, no-interval, interval-zero, above-more}
 use Rattle.pipes_coalesce.proofs.Touching.{zero-of, none-weighs}

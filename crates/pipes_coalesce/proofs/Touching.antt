@@ -8,13 +8,13 @@ use Rattle.pipes_tuple.specs.declared.value.Value.{Value}
 use Rattle.pipes_tuple.specs.Equal.{tuple_eq}
 use Rattle.pipes_tuple.proofs.Equality.{tuple_eq-Decides}
 use Rattle.pipes_stream.specs.declared.Elem.{Elem}
-use Rattle.pipes_coalesce.specs.Bags.{weigh}
+use Rattle.pipes_stream.specs.Weights.{weigh}
 use Rattle.pipes_coalesce.specs.Tests.{if_so, starts_below, starts_above, starts_by}
 use Rattle.pipes_coalesce.specs.Tests.{starts_elsewhere, ends_above, ends_at, ends_elsewhere}
 use Rattle.pipes_coalesce.specs.Tests.{is_no_interval, touch, touching}
 use Rattle.pipes_coalesce.specs.Filed.{has_tuple}
-use Rattle.pipes_coalesce.proofs.Weights.{weigh-append, weigh-same, weigh-plus, weigh-le}
-use Rattle.pipes_coalesce.proofs.Weights.{weigh-none}
+use Rattle.pipes_stream.proofs.Weights.{weigh-append, weigh-same, weigh-plus, weigh-le}
+use Rattle.pipes_stream.proofs.Weights.{weigh-none}
 
 -- ---- numbers
 pub not-lt : (n m : ℕ) → m ≤ n → if_so (nat_lt n m) ≡ 0

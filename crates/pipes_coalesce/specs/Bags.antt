@@ -1,10 +1,6 @@
 -- Lists of which only the members matter, each as often as it occurs.
-use Rattle.std.specs.Prelude.{ℕ, ◌≡◌, ◌+◌, List, [], ◌∷◌}
-
--- the sum of the weights of the members
-abbrev pub weigh : {X : Type 0} → (X → ℕ) → List X → ℕ
-weigh f [] = 0
-weigh f (x ∷ xs) = f x + weigh f xs
+use Rattle.std.specs.Prelude.{ℕ, ◌≡◌, List}
+use Rattle.pipes_stream.specs.Weights.{weigh}
 
 -- Every weighing gives the same sum: the members are the same, each as often.
 abbrev pub SameMembers : {X : Type 0} → List X → List X → Type 0

@@ -6,7 +6,7 @@ use Rattle.pipes_tuple.specs.Equal.{tuple_eq}
 use Rattle.pipes_stream.specs.declared.Elem.{Elem}
 use Rattle.pipes_stream.specs.declared.message.Message.{Message}
 use Rattle.pipes_stream.specs.declared.message.Message.TheVariants as message
-use Rattle.pipes_coalesce.specs.Bags.{weigh}
+use Rattle.pipes_stream.specs.Weights.{weigh}
 
 -- tuples, each with its queue
 abbrev pub Entries : Type 0

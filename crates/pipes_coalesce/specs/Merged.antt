@@ -6,7 +6,8 @@ use Rattle.pipes_stream.specs.declared.Elem.{Elem}
 use Rattle.pipes_stream.specs.declared.message.Message.{Message}
 use Rattle.pipes_stream.specs.Snapshot.{snapshot}
 use Rattle.pipes_stream.specs.Lists.{Valid, beat, HasEnded, elements}
-use Rattle.pipes_coalesce.specs.Bags.{weigh, SameMembers}
+use Rattle.pipes_stream.specs.Weights.{weigh}
+use Rattle.pipes_coalesce.specs.Bags.{SameMembers}
 use Rattle.pipes_coalesce.specs.Tests.{starts_below, starts_by, ends_above, ends_at, goes_by}
 use Rattle.pipes_coalesce.specs.Tests.{waits_below, touching}
 use Rattle.pipes_coalesce.specs.Merging.{Pairing, ArePairings}

@@ -1,7 +1,7 @@
 -- What becomes of the elements of both sides.
 use Rattle.std.specs.Prelude.{ℕ, ◌≡◌, ◌+◌, cond, nat_le, nat_lt, ◌&&◌, List, [], ◌∷◌, ⊤}
 use Rattle.pipes_stream.specs.declared.Elem.{Elem}
-use Rattle.pipes_coalesce.specs.Bags.{weigh}
+use Rattle.pipes_stream.specs.Weights.{weigh}
 
 -- an old element that ends at the split, a fresh one of the same tuple that starts there, and the
 -- one made of both

@@ -3,7 +3,7 @@ use Rattle.std.specs.Prelude.{ℕ, ◌≡◌, Bool, cond, eqb, nat_le, nat_lt, n
 use Rattle.pipes_time.specs.Interval.{horizon}
 use Rattle.pipes_tuple.specs.Equal.{tuple_eq}
 use Rattle.pipes_stream.specs.declared.Elem.{Elem}
-use Rattle.pipes_coalesce.specs.Bags.{weigh}
+use Rattle.pipes_stream.specs.Weights.{weigh}
 
 abbrev pub if_so : Bool → ℕ
 if_so b = cond b 1 0

@@ -4,6 +4,7 @@ use Rattle.std.proofs.Common.{Option, Some, None}
 use Rattle.std.specs.List.{All}
 use Rattle.std.specs.Option.{option_and_then}
 use Rattle.std.proofs.lemmas.List.Elements.{All-nil, All-cons}
+use Rattle.pipes_plan.proofs.PlanTyped.{flag_is}
 use Rattle.pipes_tuple.specs.declared.value.Kind.{Kind}
 use Rattle.pipes_tuple.specs.declared.value.Kind.TheVariants as kind
 use Rattle.pipes_tuple.specs.declared.value.Value.{Value}
@@ -16,12 +17,6 @@ use Rattle.pipes_plan.specs.PlanKinds.{IsTyped, all_kinds, filter_kinds, map_kin
 use Rattle.pipes_plan.specs.PlanKinds.{is_flag}
 use Rattle.pipes_plan.proofs.PlanEquations.{kinds-Source, kinds-Filter, kinds-Map}
 use Rattle.pipes_plan.proofs.PlanTyped.{only_if_is, map_is, all_kinds-cons}
-
-flag_is : (o : Option Kind) → is_flag o ≡ true → o ≡ Some kind.Flag
-flag_is (Some kind.Int) h = cc
-flag_is (Some kind.Text) h = cc
-flag_is (Some kind.Flag) h = refl
-flag_is None h = cc
 
 -- a filter's condition is a flag
 pub condition_is_flag : (p : Expr) (s : List Kind) → IsTyped (Filter p (Source 0)) (s ∷ [])

@@ -20,12 +20,13 @@ use Rattle.pipes_reader.specs.Places.{FirstPlace}
 use Rattle.pipes_reader.proofs.TokenLists.{kinds-append, tokens_of, kinds-tokens, both_unended}
 use Rattle.pipes_reader.proofs.TokenLists.{prefix_unended}
 use Rattle.pipes_reader.proofs.Causes as causes
-use Rattle.pipes_reader.proofs.Readers.{IsReader, RefusedAt, refused_as_well, first_place}
+use Rattle.pipes_reader.proofs.Readers.{IsReader, IsReaderIf, RefusedAt, refused_as_well}
+use Rattle.pipes_reader.proofs.Readers.{first_place}
 use Rattle.pipes_expr.specs.declared.op.Op.{Op}
 use Rattle.pipes_grammar.specs.Ops.{op_of}
 use Rattle.pipes_grammar.specs.Grammar as grammar
 use Rattle.pipes_grammar.specs.Grammar.{IsExpr, AreEntries, IsFilled, IsList, IsColumnPlace, IsPair}
-use Rattle.pipes_grammar.specs.Grammar.{IsAgg, IsPlan}
+use Rattle.pipes_grammar.specs.Grammar.{IsAgg, IsPlan, HasSourceName}
 use Rattle.pipes_grammar.specs.Limits.{IsExprText, AreExprsText, IsPlanText}
 use Rattle.pipes_grammar.specs.Places.{RunsOut, IsExprPlace, IsExprsPlace, in_entry, ExprsRefused}
 use Rattle.pipes_grammar.specs.Places.{IsPlanPlace}
@@ -161,7 +162,7 @@ reads_expr = record {
   wider = λ e ks h is. is.spells;
   alike = λ e ks k j a is. is;
   unended = expr_unended;
-  first = λ ts r h e.
+  first = λ ts r h e u.
       refused_within IsExpr (WholePlace ⊥ IsExpr IsExprText) IsExprPlace parse_expr expr_unended
       expr_place ts r h (expr_at ts r e);
 }
@@ -233,7 +234,7 @@ reads_exprs = record {
   wider = λ es ks h is. is.spells;
   alike = λ es ks k j a is. is;
   unended = filled_unended IsExpr expr_unended;
-  first = λ ts r h e.
+  first = λ ts r h e u.
       refused_within (IsFilled IsExpr) IsExprsPlace IsExprsPlace parse_exprs
       (filled_unended IsExpr expr_unended) (λ before t r p. p) ts r h (exprs_at ts r e);
 }
@@ -245,15 +246,16 @@ exprs_refused Memory ts e = tt
 
 -- ---- the reader of plans
 
-pub reads_plan : (names : List (List ℕ)) → 0 < length names
-    → IsReader (IsPlan names) (Anywhere (IsPlanText names)) (IsPlanPlace names) (parse_plan names)
-reads_plan names some = record {
+pub reads_plan : (names : List (List ℕ))
+    → IsReaderIf (λ ts. HasSourceName names) (IsPlan names) (Anywhere (IsPlanText names))
+    (IsPlanPlace names) (parse_plan names)
+reads_plan names = record {
   found = plan_found names;
   only = plan_only names;
   wider = λ p ks h is. is.spells;
   alike = λ p ks k j a is. is;
   unended = plan_unended names;
-  first = λ ts r h e.
+  first = λ ts r h e some.
       refused_within (IsPlan names) (WholePlace (Unit {0}) (IsPlan names) (IsPlanText names))
       (IsPlanPlace names) (parse_plan names) (plan_unended names) (plan_place names) ts r h
       (plan_at names some ts r e);

@@ -14,6 +14,7 @@ use Rattle.pipes_reader.specs.Sentences.{Begins}
 use Rattle.pipes_grammar.specs.Places.{RunsOut}
 use Rattle.pipes_reader.proofs.TokenLists.{uncons, none}
 use Rattle.pipes_reader.specs.Causes.{AreAlike, itself, two_numbers, two_names, IsTextWhy}
+use Rattle.pipes_reader.proofs.Singles.{refused_place}
 use Rattle.pipes_reader.proofs.Causes.{why_map, CauseOf, plain_why}
 use Rattle.pipes_reader.proofs.Causes as causes
 use Rattle.pipes_grammar.proofs.Readers.{AtToken, there, inside, Ends, here, in_expr, deep, Stops}
@@ -200,13 +201,6 @@ takes {A} bys Begun Exprs whole Is IsW k by v is given = record {
     no : (at : ℕ) (ts : List Token) (r : Refusal) → done v ts ≡ Err r → ⊥
     no at ts r e = cc
 
--- a refused token is the place of its refusal
-refused-at : (k : TokenKind) (at : ℕ) → (refused_by k at).at ≡ at
-refused-at Long at = refl
-refused-at Byte at = refl
-refused-at End at = refl
-refused-at _ at = refl
-
 -- numbers and names come first nowhere
 pub bars_like : {A : Type 0} (bys : TokenKind → ℕ → Reads A) (k j : TokenKind) → AreAlike k j
     → ((at : ℕ) (ts : List Token) → bys k at ts ≡ Err (refused_by k at))
@@ -225,11 +219,11 @@ pub plainly : {A : Type 0} (bys : TokenKind → ℕ → Reads A) (Begun Exprs : 
     → Branch bys Begun Exprs whole Is IsW k (bys k)
 plainly bys Begun Exprs whole Is IsW k is numbers names =
     refuses bys Begun Exprs whole Is IsW k (bys k) (λ at. refused_by k at) is
-    (λ at. there (refused-at k at))
+    (λ at. there (refused_place k at))
     (λ b at. plain_why _ _ _ k at (λ j a. bars_like bys k j a is numbers names))
 
 pub at_refused : (k : TokenKind) (at : ℕ) → AtToken (token at k) (refused_by k at)
-at_refused k at = there (refused-at k at)
+at_refused k at = there (refused_place k at)
 
 module _ {A : Type 0} (Begun Exprs : Type 0) (whole : Option ℕ) (Is IsW : A → List TokenKind
     → Type 0) (read : Reads A) (by : TokenKind → ℕ → Reads A)

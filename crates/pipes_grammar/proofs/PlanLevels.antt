@@ -21,7 +21,7 @@ use Rattle.pipes_expr.specs.ExprSize.{expr_depth}
 use Rattle.pipes_plan.specs.Sizes.{plan_depth}
 use Rattle.pipes_grammar.specs.Grammar.{IsExpr, IsFilled, IsList, IsColumnPlace, IsPair, IsAgg}
 use Rattle.pipes_grammar.specs.Grammar.{source_named, IsPlan, source, filter, mapped, union, join}
-use Rattle.pipes_grammar.specs.Grammar.{distinct, group, minus}
+use Rattle.pipes_grammar.specs.Grammar.{distinct, group, minus, HasSourceName}
 use Rattle.pipes_grammar.specs.Limits.{deepest_expr, longest_list, IsExprText, AreExprsText}
 use Rattle.pipes_reader.specs.Reading.{Reads, kinds_of, refusal, refused_by}
 use Rattle.pipes_grammar.specs.Reading.{SentencePrefix}
@@ -56,20 +56,9 @@ first_named name names = rw (
   lt-ltb 0 (suc (length names)) (omega arith),
 ) refl
 
-pub some_plan : (names : List (List ℕ)) → 0 < length names → Begins (IsPlan names) []
-some_plan [] some = absurd (omega arith)
-some_plan (name ∷ names) some = (
-  plan.Source 0,
-  Name name ∷ [],
-  source name 0 (first_named name names),
-)
-
--- a plan that is a source
-some_named : (names : List (List ℕ)) → 0 < length names
-    → (word : List ℕ) × Begins (IsPlan names) (Name word ∷ [])
-some_named [] some = absurd (omega arith)
-some_named (name ∷ names) some =
-    (name, (plan.Source 0, [], source name 0 (first_named name names)))
+pub some_plan : (names : List (List ℕ)) → HasSourceName names → Begins (IsPlan names) []
+some_plan names some =
+    (plan.Source some.place, Name some.name ∷ [], source some.name some.place some.is)
 
 -- ---- the plan that a node makes with its keyword
 
@@ -216,10 +205,10 @@ module _ (names : List (List ℕ)) where
 -- ---- one level
 
 module _ (names : List (List ℕ)) (whole : Option ℕ) (n : ℕ) (read : Reads Plan)
-    (next : IsReader (0 < length names) (Unit {0}) whole (IsPlan names) (PlanLevel names n) read)
+    (next : IsReader (HasSourceName names) (Unit {0}) whole (IsPlan names) (PlanLevel names n) read)
   where
     abbrev Begun : Type 0
-    Begun = 0 < length names
+    Begun = HasSourceName names
 
     abbrev Exprs : Type 0
     Exprs = Unit {0}
@@ -253,7 +242,8 @@ module _ (names : List (List ℕ)) (whole : Option ℕ) (n : ℕ) (read : Reads 
     source_test word None is =
         refuses by Begun Exprs whole Is Now (Name word) (source_or None)
         (λ at. refusal at why.Name) (λ at ts. refl) (λ at. there refl)
-        (λ b at. let s = some_named names b in other_word (Name word) s.0 tt s.1)
+        (λ b at. other_word (Name word) b.name tt b.named
+        (plan.Source b.place, [], source b.name b.place b.is))
 
     branch : (k : TokenKind) → Branch by Begun Exprs whole Is Now k (by k)
     branch (Name word) = source_test word (source_named names word) refl

@@ -10,7 +10,7 @@ use Rattle.pipes_plan.specs.Sizes.{plan_depth}
 use Rattle.pipes_reader.specs.declared.fault.ParseFault.{ParseFault}
 use Rattle.pipes_reader.specs.declared.fault.ParseFault.TheVariants.{Refused, Memory}
 use Rattle.pipes_grammar.specs.Grammar.{IsPlan, source, filter, mapped, union, join, distinct}
-use Rattle.pipes_grammar.specs.Grammar.{group, minus}
+use Rattle.pipes_grammar.specs.Grammar.{group, minus, HasSourceName}
 use Rattle.pipes_grammar.specs.Limits.{IsPlanText}
 use Rattle.pipes_reader.specs.Reading.{Reads, kinds_of, Fails, place_of, too_deep}
 use Rattle.pipes_grammar.specs.Reading.{SentencePrefix}
@@ -46,20 +46,20 @@ no_level : (names : List (List ℕ)) (p : Plan) (ks : List TokenKind) → PlanLe
 no_level names p ks is = omega (arith, some_level names p ks is.spells, is.depth)
 
 reads_levels : (names : List (List ℕ)) (whole n : ℕ)
-    → IsReader (0 < length names) (Unit {0}) (Some whole) (IsPlan names) (PlanLevel names n)
+    → IsReader (HasSourceName names) (Unit {0}) (Some whole) (IsPlan names) (PlanLevel names n)
     (plan_within names n whole)
 unfolding plan_within
 reads_levels names whole zero =
-    reads_no_level (0 < length names) (Unit {0}) whole (IsPlan names) (PlanLevel names 0)
+    reads_no_level (HasSourceName names) (Unit {0}) whole (IsPlan names) (PlanLevel names 0)
     (no_level names) (some_plan names)
 reads_levels names whole (suc n) = reads_plan_level names (Some whole) n (plan_within names n whole)
     (reads_levels names whole n)
 
 reads_whole : (names : List (List ℕ)) (whole : ℕ)
-    → IsReader (0 < length names) (Unit {0}) (Some whole) (IsPlan names) (IsPlanText names)
+    → IsReader (HasSourceName names) (Unit {0}) (Some whole) (IsPlan names) (IsPlanText names)
     (plan_within names 32 whole)
 reads_whole names whole =
-    reads_as (0 < length names) (Unit {0}) (Some whole) (IsPlan names) (PlanLevel names 32)
+    reads_as (HasSourceName names) (Unit {0}) (Some whole) (IsPlan names) (PlanLevel names 32)
     (IsPlan names) (IsPlanText names) (plan_within names 32 whole)
     (reads_levels names whole 32) (λ p ks is. is)
     (λ p ks is. record { spells = is.spells; depth = is.depth; exprs = is.exprs; lists = is.lists })
@@ -95,29 +95,29 @@ plan_place names before t r (in_inner q outside within parts d) =
     in_expr outside within parts (places.IsExprPlace.deep d)
 plan_place names before t r (in_whole d) = places.IsPlanPlace.deep d
 
-pub plan_at : (names : List (List ℕ)) → 0 < length names → (ts : List Token) (r : Refusal)
+pub plan_at : (names : List (List ℕ)) → HasSourceName names → (ts : List Token) (r : Refusal)
     → parse_plan names ts ≡ Err r
     → RunsOut (IsPlan names) ts r
     ⊎ RefusedAt (IsPlan names) (WholePlace (Unit {0}) (IsPlan names) (IsPlanText names))
     (parse_plan names) ts r
 unfolding parse_plan
 plan_at names some ts r e =
-    whole_first (0 < length names) (Unit {0}) (IsPlan names) (IsPlanText names)
+    whole_first (HasSourceName names) (Unit {0}) (IsPlan names) (IsPlanText names)
     (λ whole. plan_within names 32 whole) (reads_whole names) some ts r e
 
-pub plan_first : (names : List (List ℕ)) → 0 < length names → (ts : List Token) (r : Refusal)
+pub plan_first : (names : List (List ℕ)) → HasSourceName names → (ts : List Token) (r : Refusal)
     → parse_plan names ts ≡ Err r
     → RunsOut (IsPlan names) ts r ⊎ FirstPlace (IsPlan names) (IsPlanText names) (IsPlanPlace names)
     (parse_plan names) ts r
 unfolding parse_plan
 plan_first names some ts r e =
-    first_by (0 < length names) (Unit {0}) (IsPlan names) (IsPlanText names)
+    first_by (HasSourceName names) (Unit {0}) (IsPlan names) (IsPlanText names)
     (λ whole. plan_within names 32 whole) (reads_whole names)
     (WholePlace (Unit {0}) (IsPlan names) (IsPlanText names)) (IsPlanPlace names)
     (plan_place names) ts r (plan_at names some ts r e)
 
 pub plan_refused : (names : List (List ℕ)) (fault : ParseFault) (ts : List Token)
-    → Fails fault (parse_plan names ts) → 0 < length names
+    → Fails fault (parse_plan names ts) → HasSourceName names
     → PlanRefused names (parse_plan names) ts fault
 plan_refused names (Refused r) ts e some = plan_first names some ts r e
 plan_refused names Memory ts e some = tt

@@ -20,6 +20,7 @@ use Rattle.pipes_relation.specs.declared.lists.Agg.TheVariants as agg
 use Rattle.pipes_plan.specs.declared.plan.Plan.{Plan}
 use Rattle.pipes_plan.specs.declared.plan.Plan.TheVariants as plan
 use Rattle.pipes_expr.specs.declared.op.Op.{Op}
+use Rattle.pipes_reader.specs.Names.{IsSourceName}
 use Rattle.pipes_grammar.specs.Ops.{op_of}
 
 -- ---- `expr`
@@ -82,6 +83,13 @@ pub data IsAgg : Agg → List TokenKind → Type 0 where
 -- the number of the first declared source with this name
 abbrev pub source_named : List (List ℕ) → List ℕ → Option ℕ
 source_named names word = position (bytes_eq word) names
+
+-- one of the names is one that texts have
+pub record HasSourceName (names : List (List ℕ)) : Type 0 where
+  pub name : List ℕ
+  pub place : ℕ
+  pub named : IsSourceName name
+  pub is : source_named names name ≡ Some place
 
 -- a plan over declared sources with these names
 pub data IsPlan (names : List (List ℕ)) : Plan → List TokenKind → Type 0 where

@@ -292,8 +292,9 @@ pub fn read_plan<'a>(
     ensures only { (p : Plan) (rest : List Token)
         → SentencePrefix (IsPlanText names.now) p tokens.now rest
         → Gives (λ x. (x.0, x.1.now)) result (done p rest) }
-    // Where a source is declared, a refusal comes at the first token with which no plan goes on.
-    ensures first { 0 < length names.now
+    // Where a source is declared by a name that texts have, a refusal comes at the first token with
+    // which no plan goes on.
+    ensures first { grammar.HasSourceName names.now
         → IfErr result (λ fault. PlanRefused names.now (spec.parse_plan names.now) tokens.now
         fault) }
     // Which refusal it is.

@@ -12,6 +12,7 @@ use Rattle.std.specs.declared.cmp.Ordering.TheVariants.{Less, Equal, Greater}
 use Rattle.std.specs.Ordering.{ordering_reverse}
 use Rattle.std.specs.BTreeMap.{BTreeMap, get, btree_map_len, IsLowerBound, IsUpperBound}
 use Rattle.std.proofs.lemmas.List.Sums.{sum_by-cons}
+use Rattle.pipes_plan.proofs.SameAnswers.{tied}
 use Rattle.pipes_tuple.specs.declared.value.Value.{Value}
 use Rattle.pipes_tuple.specs.Equal.{value_eq}
 use Rattle.pipes_tuple.specs.Order.{value_cmp}
@@ -217,12 +218,6 @@ module _ (lt : Value → Value → Bool) (v : Value)
           let z : ◌≡◌ {A = ℕ} (cond (value_eq x v) 1 0) 0 =
           ap (λ (b : Bool). cond {A = ℕ} b 1 0) g in
           omega (arith, a, z, some))
-
--- ---- the least and the greatest
-tied : (o p : Ordering) → p ≡ ordering_reverse o → is_lt o ≡ false → is_lt p ≡ false → o ≡ Equal
-tied Equal p e h g = refl
-tied Less p e h g = absurd (let bad : true ≡ false = h in cc)
-tied Greater p e h g = absurd (let bad : true ≡ false = sym (ap is_lt e) ∙ g in cc)
 
 ties-below : (v a : Value) → is_lt (value_cmp a v) ≡ false → is_lt (value_cmp v a) ≡ false → a ≡ v
 ties-below v a h g =

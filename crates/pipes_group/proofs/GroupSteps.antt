@@ -4,6 +4,8 @@ use Rattle.std.proofs.Common.{refl, sym, ◌∙◌, subst, ap, arith, append_ass
 use Rattle.std.specs.List.{All}
 use Rattle.std.proofs.lemmas.List.{map-append}
 use Rattle.std.proofs.lemmas.List.Elements.{All-nil, All-cons, All-append}
+use Rattle.pipes_stream.proofs.Following.{arrived-fits}
+use Rattle.pipes_stream.proofs.Following.{not_ended}
 use Rattle.pipes_time.specs.Interval.{closed}
 use Rattle.pipes_tuple.specs.declared.value.Kind.{Kind}
 use Rattle.pipes_tuple.specs.Kinds.{Fits}
@@ -72,18 +74,6 @@ starts-now : (p : Progress) (m : Message) → CanFollow p m → StartsAt (after 
 starts-now p (message.Elem e) w = (refl, w.2)
 starts-now p (message.Beat at) w = tt
 starts-now p message.End w = tt
-
-going : (p : Progress) (m : Message) → CanFollow p m → p.ended ≡ false
-going p (message.Elem e) w = w.0
-going p (message.Beat at) w = w.0
-going p message.End w = w
-
-fits-one : (m : Message) (kinds : List Kind) → MessageFits m kinds
-    → All (λ e. Fits e.tuple kinds) (elements (m ∷ []))
-fits-one (message.Elem e) kinds f =
-    All-cons (λ (e : Elem). Fits e.tuple kinds) e [] f (All-nil (λ (e : Elem). Fits e.tuple kinds))
-fits-one (message.Beat at) kinds f = All-nil (λ (e : Elem). Fits e.tuple kinds)
-fits-one message.End kinds f = All-nil (λ (e : Elem). Fits e.tuple kinds)
 
 module _ (old new : Group) (passed mid : GroupLine) (m : Message) (taken : Lists)
     (earlier : List Message) (s : GroupStands old taken earlier)
@@ -159,7 +149,7 @@ module _ (old new : Group) (passed mid : GroupLine) (m : Message) (taken : Lists
       starts b)
 
   was-going : (run start_of_list earlier).ended ≡ false
-  was-going = s.line.sent_ended ∙ going old.watch m follows
+  was-going = s.line.sent_ended ∙ not_ended old.watch m follows
 
   at-end : new.watch.ended ≡ true → new.watch.beat ≡ closed
   at-end e = beat-is ∙ beat-ended now valid (sym (ap (λ (p : Progress). p.ended) watch) ∙ e)
@@ -198,7 +188,7 @@ module _ (old new : Group) (passed mid : GroupLine) (m : Message) (taken : Lists
             (subst (λ (es : List Elem). All (λ e. Fits e.tuple old.schema) es)
             (sym (elements-append (taken 0) (m ∷ [])))
             (All-append (λ (e : Elem). Fits e.tuple old.schema) (elements (taken 0))
-            (elements (m ∷ [])) s.taken_fits (fits-one m old.schema can.fits)));
+            (elements (m ∷ [])) s.taken_fits (arrived-fits m old.schema can.fits)));
         watch_is = watch;
         line = subst (λ (g : Grouping). TimelineStands (group_rule g.columns g.aggs)
             (GroupTells g.columns g.aggs) new.line (beat now) new.watch.ended
@@ -240,8 +230,8 @@ group_takes old new watched passed mid m h before at ended out between last saw 
     between =
     subst (λ (g : Grouping). Sends (group_rule g.columns g.aggs) (GroupTells g.columns g.aggs) mid
     new.line out between) (mid_rule ∙ passed_rule) sends in
-    let told : List Message = progress_after before at ended in
-    let is : told ≡ progress_after (reach old.line.pieces.queue.items old.line.instant)
+    let beats : List Message = progress_after before at ended in
+    let is : beats ≡ progress_after (reach old.line.pieces.queue.items old.line.instant)
     (reach new.line.pieces.queue.items new.line.instant) new.watch.ended =
     ap (λ (n : ℕ). progress_after n at ended) before_is
     ∙ ap (λ (n : ℕ). progress_after (reach old.line.pieces.queue.items old.line.instant) n ended)
@@ -249,9 +239,9 @@ group_takes old new watched passed mid m h before at ended out between last saw 
     ∙ ap (λ (b : Bool). progress_after (reach old.line.pieces.queue.items old.line.instant)
     (reach new.line.pieces.queue.items new.line.instant) b) ended_is in
     record {
-      sent = sent_on.more ++ told;
-      appended = appended ∙ ap (λ (ms : List Message). ms ++ told) sent_on.appended
-          ∙ append_assoc out sent_on.more told;
+      sent = sent_on.more ++ beats;
+      appended = appended ∙ ap (λ (ms : List Message). ms ++ beats) sent_on.appended
+          ∙ append_assoc out sent_on.more beats;
       stands = λ taken earlier s can.
           subst (λ (ms : List Message). GroupStands new (with_message taken 0 m)
           (earlier ++ (sent_on.more ++ ms))) (sym is)

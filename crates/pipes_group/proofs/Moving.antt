@@ -266,11 +266,6 @@ admits-wide old new e slot start until m there until_is start_is sets unique due
     (get tuple_eq new.table)) until_is sets)
     dues unique (is ∙ ap message.Beat start_is)
 
--- where a call succeeds
-pub on-ok : {A E : Type 0} {P Q : Type 0} (r : Result A E) → (P → Q) → OnOk r P → OnOk r Q
-on-ok (Ok a) f h = f h
-on-ok (Err e) f h = tt
-
 -- one turn
 pub turn : (first mid popped last : Coverage) (d : Due) (to : ℕ) (before between now : List Message)
     → CatchesUp first first.dues mid to before between → mid.dues ≡ d ∷ popped.dues

@@ -10,6 +10,9 @@ use Rattle.std.proofs.lemmas.Bool.Decides.{nat_tests}
 use Rattle.std.proofs.lemmas.List.Elements.{All-weaker}
 use Rattle.std.proofs.lemmas.List.Sums.{sum_by-cons}
 use Rattle.std.proofs.lemmas.Map.Lookups.{exact_pairs, exact_unsigned}
+use Rattle.pipes_timeline.proofs.Filing.{then-less}
+use Rattle.pipes_timeline.proofs.Filing.{le-cmp}
+use Rattle.pipes_sweep.proofs.Indices.{then-gt}
 use Rattle.pipes_tuple.specs.declared.value.Value.{Value}
 use Rattle.pipes_tuple.specs.Order.{tuple_cmp}
 use Rattle.pipes_tuple.specs.OrderLaws.{tuple_cmp-ties}
@@ -68,20 +71,6 @@ joins_insert k old new is = subst (λ (ds : List Due). Joins k old ds) (sym is) 
   kept = λ d h. kept k d old h;
   weight = λ f. weight f k old;
 })
-
--- ---- the first
-le-cmp : (n k : ℕ) → is_gt (nat_cmp n k) ≡ false → n ≤ k
-le-cmp n k h = grind (arith, nat_tests)
-
-then-less : (o p : Ordering) → ordering_then o p ≡ Less → is_gt o ≡ false
-then-less Less p h = refl
-then-less Equal p h = refl
-then-less Greater p h = cc
-
-then-gt : (o p : Ordering) → is_gt (ordering_then o p) ≡ false → is_gt o ≡ false
-then-gt Less p h = refl
-then-gt Equal p h = refl
-then-gt Greater p h = h
 
 pub from-first : (to : ℕ) (d : Due) (ds : List Due) → to < d.0
     → All (λ e. is_gt (due_cmp d e) ≡ false) ds → All (λ e. to < e.0) ds

@@ -336,13 +336,13 @@ pub reaches-elem : (now : ℕ) (sent : List Message) (e : Elem) → CoverReaches
     → now ≤ e.span.start → IsInterval e.span.start e.span.end
     → CoverReaches e.span.start (sent ++ message.Elem e ∷ [])
 reaches-elem now sent e r h inside =
-    let behind : beat sent ≤ now = r.behind in
+    let at_most : beat sent ≤ now = r.at_most in
     let ran = run-push start_of_list sent (message.Elem e) in
     record {
       valid = valid-push start_of_list sent (message.Elem e) r.valid
-          (r.going, omega (arith, behind, h), inside);
+          (r.going, omega (arith, at_most, h), inside);
       going = ap (λ (p : Progress). p.ended) ran ∙ r.going;
-      behind = let same : beat (sent ++ message.Elem e ∷ []) ≡ e.span.start =
+      at_most = let same : beat (sent ++ message.Elem e ∷ []) ≡ e.span.start =
           ap (λ (p : Progress). p.beat) ran in omega (arith, same);
     }
 
@@ -351,7 +351,7 @@ pub reaches-later : (now then : ℕ) (sent : List Message) → now ≤ then → 
 reaches-later now then sent h r = record {
   valid = r.valid;
   going = r.going;
-  behind = let behind : beat sent ≤ now = r.behind in omega (arith, behind, h);
+  at_most = let at_most : beat sent ≤ now = r.at_most in omega (arith, at_most, h);
 }
 
 pub elements-pushed : (sent : List Message) (e : Elem)

@@ -68,7 +68,7 @@ pub record Lives (find : Row → Option Slot) (dues : List Due) (now : ℕ)
 pub record CoverReaches (now : ℕ) (sent : List Message) : Type 0 where
   pub valid : Valid sent
   pub going : (run start_of_list sent).ended ≡ false
-  pub behind : beat sent ≤ now
+  pub at_most : beat sent ≤ now
 
 -- that at some instant up to `to`
 pub record LivesTo (find : Row → Option Slot) (dues : List Due) (to : ℕ) (taken : List Elem)

@@ -12,6 +12,8 @@ use Rattle.std.proofs.lemmas.Bool.{lt-ltb}
 use Rattle.std.proofs.lemmas.List.Sums.{sum_by-cons}
 use Rattle.std.proofs.lemmas.List.Elements.{All-nil, All-cons, All-append}
 use Rattle.std.proofs.lemmas.List.Elements.{All-weaker}
+use Rattle.pipes_stream.proofs.Following.{arrived-fits}
+use Rattle.pipes_stream.proofs.Following.{not_ended}
 use Rattle.indexmap.specs.IndexMap.{IndexMap, get, IsUnique}
 use Rattle.pipes_time.specs.Interval.{closed}
 use Rattle.pipes_tuple.specs.declared.value.Kind.{Kind}
@@ -202,12 +204,6 @@ pub distinct_beat : (d : Distinct) (taken : Lists) (sent : List Message)
     → DistinctStands d taken sent → d.watch.beat ≡ beat sent
 distinct_beat d taken sent s = ap (λ (p : Progress). p.beat) (s.watch_is ∙ sym s.sent_run)
 
--- ---- a message
-distinct-not_ended : (p : Progress) (m : Message) → CanFollow p m → p.ended ≡ false
-distinct-not_ended p (message.Elem e) w = w.0
-distinct-not_ended p (message.Beat at) w = w.0
-distinct-not_ended p message.End w = w
-
 -- what is sent last, and what it leaves
 record Lasted (end : Coverage) (at : ℕ) (q : Progress) (m last : Message)
     (taken sent : List Elem) : Type 0 where
@@ -241,19 +237,19 @@ lasted : (mid end : Coverage) (at : ℕ) (p q : Progress) (m last : Message)
     → Lives (get tuple_eq mid.table) mid.dues at taken sent
     → ((x : Row) (s : Slot) → get tuple_eq mid.table x ≡ Some s → at < s.cover)
     → Lasted end at q m last taken sent
-lasted mid end at p q (message.Elem e) last taken sent w is going behind lasts unique lives later =
+lasted mid end at p q (message.Elem e) last taken sent w is going at_most lasts unique lives later =
     subst (λ (a : ℕ). Lasted end a q (message.Elem e) last taken sent) (sym is) (record {
       unique = lasts.unique unique;
       lives = lasts.lives taken sent w.2
           (subst (λ (a : ℕ). Lives (get tuple_eq mid.table) mid.dues a taken sent) is lives);
       later = lasts.later w.2 (λ x s h. let a : at < s.cover = later x s h in omega (arith, a, is));
-      follows = lasts.may_follow q (going, omega (arith, behind, is), w.2);
+      follows = lasts.may_follow q (going, omega (arith, at_most, is), w.2);
       as_far = lasts.as_far;
     })
-lasted mid end at p q (message.Beat b) last taken sent w is going behind lasts unique lives later =
+lasted mid end at p q (message.Beat b) last taken sent w is going at_most lasts unique lives later =
     stayed mid end at q (message.Beat b) last taken sent lasts.0 lasts.1 refl
-    (going, omega (arith, behind, is), w.2) unique lives later
-lasted mid end at p q message.End last taken sent w is going behind lasts unique lives later =
+    (going, omega (arith, at_most, is), w.2) unique lives later
+lasted mid end at p q message.End last taken sent w is going at_most lasts unique lives later =
     stayed mid end at q message.End last taken sent lasts.0 lasts.1 refl going unique lives later
 
 after-alike : (p q : Progress) (m : Message) → q.ended ≡ p.ended → after q m ≡ after p m
@@ -262,13 +258,6 @@ after-alike p q (message.Elem e) h =
 after-alike p q (message.Beat at) h =
     ap (λ (b : Bool). let r : Progress = record { beat = at; ended = b } in r) h
 after-alike p q message.End h = refl
-
-distinct-taken_fits : (m : Message) (kinds : List Kind) → MessageFits m kinds
-    → All (λ e. Fits e.tuple kinds) (elements (m ∷ []))
-distinct-taken_fits (message.Elem e) kinds f =
-    All-cons (λ (e : Elem). Fits e.tuple kinds) e [] f (All-nil (λ (e : Elem). Fits e.tuple kinds))
-distinct-taken_fits (message.Beat at) kinds f = All-nil (λ (e : Elem). Fits e.tuple kinds)
-distinct-taken_fits message.End kinds f = All-nil (λ (e : Elem). Fits e.tuple kinds)
 
 distinct-stands_on : (old new : Distinct) (mid : Coverage) (m last : Message)
     (before between : List Message)
@@ -291,12 +280,12 @@ distinct-stands_on old new mid m last before between taken earlier s w fits watc
     let was : old.watch.beat ≡ beat (taken 0) = ap (λ (x : Progress). x.beat) s.watch_is in
     let rose : (old.watch.beat ≤ (after old.watch m).beat) × ((after old.watch m).beat ≤ closed) =
     after-rises old.watch m can (omega (arith, most, was)) in
-    let ended : p.ended ≡ false = distinct-not_ended p m w in
+    let ended : p.ended ≡ false = not_ended p m w in
     let from : CoverReaches old.watch.beat earlier =
     record {
       valid = s.sent_valid;
       going = ap (λ (x : Progress). x.ended) s.sent_run ∙ ended;
-      behind = let e = distinct_beat old taken earlier s in omega (arith, e);
+      at_most = let e = distinct_beat old taken earlier s in omega (arith, e);
     } in
     let start : LivesTo (get tuple_eq old.coverage.table) old.coverage.dues at (elements (taken 0))
     earlier =
@@ -315,9 +304,9 @@ distinct-stands_on old new mid m last before between taken earlier s w fits watc
     (elements sent) went.upto cleared went.lives in
     let later = slots-later at (get tuple_eq mid.table) mid.dues (elements (taken 0))
     (elements sent) cleared lives in
-    let behind : q.beat ≤ at = reached.behind in
+    let at_most : q.beat ≤ at = reached.at_most in
     let end = lasted mid new.coverage at old.watch q m last (elements (taken 0)) (elements sent) can
-    at_is reached.going behind lasts (moves.unique s.unique) lives later in
+    at_is reached.going at_most lasts (moves.unique s.unique) lives later in
     let all : earlier ++ (moves.more ++ last ∷ []) ≡ sent ++ last ∷ [] =
     sym (append_assoc earlier moves.more (last ∷ [])) in
     let ran : run start_of_list (sent ++ last ∷ []) ≡ run start_of_list (taken 0 ++ m ∷ []) =
@@ -327,7 +316,7 @@ distinct-stands_on old new mid m last before between taken earlier s w fits watc
     subst (λ (es : List Elem). All (λ e. Fits e.tuple old.schema) es)
     (sym (elements-append (taken 0) (m ∷ [])))
     (All-append (λ (e : Elem). Fits e.tuple old.schema) (elements (taken 0)) (elements (m ∷ []))
-    s.taken_fits (distinct-taken_fits m old.schema fits)) in
+    s.taken_fits (arrived-fits m old.schema fits)) in
     subst (λ (ms : List Message). DistinctStands new (with_message taken 0 m) ms) (sym all)
     (record {
       going = failed ∙ s.going;

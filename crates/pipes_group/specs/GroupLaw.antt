@@ -5,6 +5,7 @@ use Rattle.std.proofs.Common.{subst, ap, arith}
 use Rattle.std.specs.List.{All, filter}
 use Rattle.std.proofs.lemmas.Bool.Decides.{nat_tests}
 use Rattle.std.proofs.lemmas.List.Elements.{All-nil, All-cons, All-head, All-tail, All-filter}
+use Rattle.pipes_tuple.proofs.Perm.{length-Perm}
 use Rattle.pipes_tuple.specs.declared.value.Value.{Value}
 use Rattle.pipes_tuple.specs.Columns.{at_columns}
 use Rattle.pipes_tuple.specs.Equal.{tuple_eq}
@@ -16,19 +17,13 @@ use Rattle.pipes_expr.specs.ExprValue.{Row}
 use Rattle.pipes_relation.specs.Aggregate.{aggregate}
 use Rattle.pipes_relation.specs.Relations.{distinct, with_key, group_row, grouped}
 use Rattle.pipes_plan.proofs.SameAnswers.{aggregate-Perm}
-use Rattle.pipes_timeline.specs.Weights.{weigh}
-use Rattle.pipes_timeline.specs.WeightLaws.{weigh-filter, weigh-length, weigh-count, weigh-map}
+use Rattle.pipes_stream.specs.Weights.{weigh}
+use Rattle.pipes_stream.proofs.Weights.{weigh-filter, weigh-length, weigh-count, weigh-map}
 use Rattle.pipes_timeline.specs.Rules.{RowBags, SameOfKey, row_of_key, KeyRule}
 use Rattle.pipes_timeline.specs.LineMoves.{self-key, same-key, one-if}
 use Rattle.pipes_timeline.specs.LineMoves.{zero-if}
 use Rattle.pipes_group.specs.Counts.{count-distinct}
 use Rattle.pipes_group.specs.Groups.{group_gives}
-
-pub length-Perm : {X : Type 0} {xs ys : List X} → Perm xs ys → length xs ≡ length ys
-length-Perm none = refl
-length-Perm (keep x p) = ap suc (length-Perm p)
-length-Perm (swap x y xs) = refl
-length-Perm (then p q) = length-Perm p ∙ length-Perm q
 
 -- ---- rows that pass a test
 kept-count : (p : Row → Bool) (x row : Row) (rows : List Row) (b c : Bool) → p row ≡ b

@@ -27,8 +27,8 @@ use Rattle.pipes_plan.specs.PlanKinds.{group_kinds}
 use Rattle.pipes_relation.specs.Relations.{grouped}
 use Rattle.pipes_plan.proofs.AnswerFits.{answer_fits, group_columns}
 use Rattle.pipes_plan.proofs.PlanEquations.{alg-Source, alg-Group, kinds-Source, kinds-Group}
-use Rattle.pipes_timeline.specs.Weights.{weigh}
-use Rattle.pipes_timeline.specs.WeightLaws.{weigh-map, weigh-count}
+use Rattle.pipes_stream.specs.Weights.{weigh}
+use Rattle.pipes_stream.proofs.Weights.{weigh-map, weigh-count}
 use Rattle.pipes_timeline.specs.Rules.{Arrival, rows_at, valid_at}
 use Rattle.pipes_timeline.specs.Lines.{ends_after, Living}
 use Rattle.pipes_timeline.specs.LineMoves.{same-key}

@@ -4,6 +4,7 @@ use Rattle.std.proofs.Common.{◌∙◌, ap, arith}
 use Rattle.std.specs.BTreeMap.{BTreeMap}
 use Rattle.std.specs.List.{AllByRecursion}
 use Rattle.std.proofs.lemmas.Int.{ints}
+use Rattle.pipes_plan.proofs.SameAnswers.{exact_sum-Perm}
 use Rattle.pipes_tuple.specs.declared.value.Value.{Value}
 use Rattle.pipes_tuple.specs.Columns.{at_columns}
 use Rattle.pipes_tuple.specs.Equal.{value_eq}
@@ -19,13 +20,8 @@ use Rattle.pipes_group.specs.declared.tally.Tally.{Tally}
 use Rattle.pipes_group.specs.Values.{HasValues}
 use Rattle.pipes_group.specs.Parts.{IntsFit, PartOf}
 use Rattle.pipes_group.specs.Groups.{GroupTells}
-use Rattle.pipes_group.specs.GroupLaw.{length-Perm, same-group}
-
-exact_sum-Perm : (c : ℕ) {xs ys : List Row} → Perm xs ys → exact_sum c xs ≡ exact_sum c ys
-exact_sum-Perm c none = refl
-exact_sum-Perm c (keep x p) = ap (λ z. number (column x c) +ℤ z) (exact_sum-Perm c p)
-exact_sum-Perm c (swap x y xs) = omega (arith, ints)
-exact_sum-Perm c (then p q) = exact_sum-Perm c p ∙ exact_sum-Perm c q
+use Rattle.pipes_tuple.proofs.Perm.{length-Perm}
+use Rattle.pipes_group.specs.GroupLaw.{same-group}
 
 fit-Perm : (c : ℕ) {xs ys : List Row} → Perm xs ys → IntsFit c xs → IntsFit c ys
 fit-Perm c none f = f

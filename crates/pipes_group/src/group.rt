@@ -11,8 +11,9 @@ ghost use Rattle.pipes_group.specs.Grouped.{GroupStands, TakesUp};
 use crate::tally::{Grouping, Tally};
 use pipes_relation::Aggs;
 use pipes_stream::{Message, Operator, Watch};
+use pipes_sweep::append_progress;
 use pipes_time::Memory;
-use pipes_timeline::{Timeline, tell};
+use pipes_timeline::Timeline;
 use pipes_tuple::{Cols, Schema};
 use std::alloc::Global;
 
@@ -92,7 +93,7 @@ impl Group {
         self.line.send(out)?;
         let reach = self.line.reach();
         let ended = self.watch.is_ended();
-        tell(before, reach, ended, out)?;
+        append_progress(before, reach, ended, out)?;
         Ok(())
     }
 }

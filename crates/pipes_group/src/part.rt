@@ -1,6 +1,5 @@
 // What an aggregate of a group is read from.
 ghost use Rattle.std.specs.Prelude.{◌≡◌, ℕ, ◌+ℤ◌, ◌-ℤ◌, List, [], length, pos, OnOk, IfOk};
-ghost use Rattle.std.specs.Prelude.{FitsSigned};
 ghost use Rattle.std.specs.Int.{saturate_signed, int_div_euclid, w64};
 ghost use Rattle.pipes_tuple.specs.declared.value.Value.{Value as Datum};
 ghost use Rattle.pipes_expr.specs.ExprValue.{column as value_in};
@@ -10,7 +9,7 @@ ghost use Rattle.pipes_group.specs.Parts.{IntsFit};
 
 use crate::values::{count_in, count_out, greatest, least};
 use pipes_expr::Seen;
-use pipes_relation::Agg;
+use pipes_relation::{Agg, clamped, int_at};
 use pipes_time::Memory;
 use pipes_tuple::{Tuple, Value};
 use std::alloc::Global;
@@ -29,17 +28,6 @@ pub(crate) enum Part {
     Least(u32, BTreeMap<Value, u64>),
     // How often each value of a column is there, of which the greatest is asked.
     Greatest(u32, BTreeMap<Value, u64>),
-}
-
-// The integer in a column, or 0 where there is none.
-fn int_at(tuple: &Tuple, column: u32) -> i64
-    ensures value { result ≡ number (value_in tuple.now column) }
-    ensures fits { FitsSigned w64 (number (value_in tuple.now column)) }
-{
-    match Seen::at(tuple.as_slice(), column as usize) {
-        Seen::Int(number) => number,
-        _ => 0,
-    }
 }
 
 // The value in a column.
@@ -118,13 +106,6 @@ pub(crate) fn lose(part: &mut Part, tuple: &Tuple) -> Result<(), Memory>
         Part::Least(_, values) => count_out(values, value_at(tuple, column)?),
         Part::Greatest(_, values) => count_out(values, value_at(tuple, column)?),
     }
-}
-
-// An exact sum, clamped once to 64 bits.
-fn clamped(sum: i128) -> i64
-    ensures { result ≡ saturate_signed w64 sum }
-{
-    sum.clamp(i128::from(i64::MIN), i128::from(i64::MAX)) as i64
 }
 
 // The sum over the number of rows, rounded down.

@@ -5,6 +5,8 @@ use Rattle.std.proofs.Common.{ap, arith, append_assoc}
 use Rattle.std.specs.List.{All}
 use Rattle.std.proofs.lemmas.Bool.Decides.{nat_tests}
 use Rattle.std.proofs.lemmas.List.Elements.{All-nil, All-cons, All-append}
+use Rattle.pipes_stream.proofs.Following.{arrived-fits}
+use Rattle.pipes_stream.proofs.Following.{not_ended}
 use Rattle.pipes_time.specs.Interval.{closed}
 use Rattle.pipes_tuple.specs.declared.value.Kind.{Kind}
 use Rattle.pipes_tuple.specs.Kinds.{Fits}
@@ -18,8 +20,8 @@ use Rattle.pipes_stream.specs.Lawful.{no_messages}
 use Rattle.pipes_stream.proofs.Messages.{run-push, after-rises, valid-push, elements-append}
 use Rattle.pipes_stream.proofs.Messages.{beat-closed, beat-ended}
 use Rattle.pipes_sweep.specs.Sending.{progress_after}
-use Rattle.pipes_timeline.specs.Weights.{weigh}
-use Rattle.pipes_timeline.specs.WeightLaws.{weigh-append, weigh-where_zero}
+use Rattle.pipes_stream.specs.Weights.{weigh}
+use Rattle.pipes_stream.proofs.Weights.{weigh-append, weigh-where_zero}
 use Rattle.pipes_timeline.specs.Rules.{Arrival}
 use Rattle.pipes_timeline.specs.Queues.{FirstIsOpen}
 use Rattle.pipes_timeline.specs.Timelines.{Sends, reach}
@@ -52,13 +54,6 @@ each-list P taken port m own others q = pick (eqb q port) refl
     pick true e = subst (λ (i : ℕ). P i (taken i ++ m ∷ [])) (sym (eqb-is q port e)) own
     pick false e = others q
 
-fits-one : (m : Message) (kinds : List Kind) → MessageFits m kinds
-    → All (λ e. Fits e.tuple kinds) (elements (m ∷ []))
-fits-one (message.Elem e) kinds f =
-    All-cons (λ (e : Elem). Fits e.tuple kinds) e [] f (All-nil (λ (e : Elem). Fits e.tuple kinds))
-fits-one (message.Beat at) kinds f = All-nil (λ (e : Elem). Fits e.tuple kinds)
-fits-one message.End kinds f = All-nil (λ (e : Elem). Fits e.tuple kinds)
-
 -- what waits, with the message's element
 waits-weight : (port : ℕ) (m : Message) (old new : List Arrival) (g : Arrival → ℕ)
     → Waits port m old new
@@ -66,12 +61,6 @@ waits-weight : (port : ℕ) (m : Message) (old new : List Arrival) (g : Arrival 
 waits-weight port (message.Elem e) old new g w = omega (arith, w.weight g)
 waits-weight port (message.Beat at) old new g w = omega (arith, ap (weigh g) w)
 waits-weight port message.End old new g w = omega (arith, ap (weigh g) w)
-
--- ---- the least heartbeat
-ended-not : (p : Progress) (m : Message) → CanFollow p m → p.ended ≡ false
-ended-not p (message.Elem e) w = w.0
-ended-not p (message.Beat at) w = w.0
-ended-not p message.End w = w
 
 -- an element that may follow starts no earlier than the heartbeat
 start-late : (p : Progress) (m : Message) (n : ℕ) → CanFollow p m → n ≤ p.beat
@@ -133,7 +122,7 @@ module _ (old new : Minus) (port : ℕ) (m : Message) (taken : Lists) (earlier :
       (subst (λ (es : List Elem). All (λ e. Fits e.tuple old.schema) es)
       (sym (elements-append (taken port) (m ∷ [])))
       (All-append (λ (e : Elem). Fits e.tuple old.schema) (elements (taken port))
-      (elements (m ∷ [])) (s.taken_fits port l) (fits-one m old.schema can.fits))))
+      (elements (m ∷ [])) (s.taken_fits port l) (arrived-fits m old.schema can.fits))))
       (λ q l. subst (λ (k : List Kind). All (λ e. Fits e.tuple k) (elements (taken q))) (sym schema)
       (s.taken_fits q l))
 
@@ -193,11 +182,11 @@ module _ (old new : Minus) (port : ℕ) (m : Message) (taken : Lists) (earlier :
           → (old.left.ended && old.right.ended) ≡ false
       by zero l f =
           let a : old.left.ended ≡ false =
-          ap (λ (p : Progress). p.ended) s.left_is ∙ ended-not (run start_of_list (taken 0)) m f in
+          ap (λ (p : Progress). p.ended) s.left_is ∙ not_ended (run start_of_list (taken 0)) m f in
           ap (λ (b : Bool). b && old.right.ended) a
       by (suc zero) l f =
           let a : old.right.ended ≡ false =
-          ap (λ (p : Progress). p.ended) s.right_is ∙ ended-not (run start_of_list (taken 1)) m f in
+          ap (λ (p : Progress). p.ended) s.right_is ∙ not_ended (run start_of_list (taken 1)) m f in
           ap (λ (b : Bool). old.left.ended && b) a ∙ and-false old.left.ended
       by (suc (suc q)) l f = absurd (omega (arith, l))
 
@@ -368,8 +357,8 @@ minus_takes old watched waited new port m h before at ended line out between las
     subst (λ (n : ℕ). FeedsAll old.line line waited.waits new.waits n) beats
     (subst (λ (l : CountLine). FeedsAll l line waited.waits new.waits h) (line_is ∙ same_line)
     fed) in
-    let told : List Message = progress_after before at ended in
-    let is : told ≡ progress_after (reach old.line.pieces.queue.items old.line.instant)
+    let beats : List Message = progress_after before at ended in
+    let is : beats ≡ progress_after (reach old.line.pieces.queue.items old.line.instant)
     (reach new.line.pieces.queue.items new.line.instant) (new.left.ended && new.right.ended) =
     ap (λ (n : ℕ). progress_after n at ended) before_is
     ∙ ap (λ (n : ℕ). progress_after (reach old.line.pieces.queue.items old.line.instant) n ended)
@@ -377,9 +366,9 @@ minus_takes old watched waited new port m h before at ended line out between las
     ∙ ap (λ (b : Bool). progress_after (reach old.line.pieces.queue.items old.line.instant)
     (reach new.line.pieces.queue.items new.line.instant) b) ended_is in
     record {
-      sent = sends.more ++ told;
-      appended = appended ∙ ap (λ (ms : List Message). ms ++ told) sends.appended
-          ∙ append_assoc out sends.more told;
+      sent = sends.more ++ beats;
+      appended = appended ∙ ap (λ (ms : List Message). ms ++ beats) sends.appended
+          ∙ append_assoc out sends.more beats;
       stands = λ taken earlier s can.
           subst (λ (ms : List Message). MinusStands new (with_message taken port m)
           (earlier ++ (sends.more ++ ms))) (sym is)

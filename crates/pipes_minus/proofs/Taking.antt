@@ -9,13 +9,13 @@ use Rattle.pipes_time.specs.Interval.{IsInterval}
 use Rattle.pipes_stream.specs.declared.message.Message.{Message}
 use Rattle.pipes_stream.specs.Progress.{Progress}
 use Rattle.pipes_stream.specs.Lists.{CanFollow, after}
-use Rattle.pipes_timeline.specs.Weights.{weigh}
-use Rattle.pipes_timeline.specs.WeightLaws.{weigh-append}
+use Rattle.pipes_stream.specs.Weights.{weigh}
+use Rattle.pipes_stream.proofs.Weights.{weigh-append}
 use Rattle.pipes_timeline.specs.Rules.{Arrival}
 use Rattle.pipes_timeline.specs.Timelines.{Passes, Arrives, Trims}
 use Rattle.pipes_timeline.proofs.Fed.{fed_passed, fed_arrived, fed_trimmed}
 use Rattle.pipes_minus.specs.Differences.{minus_rule, MinusTells}
-use Rattle.pipes_minus.specs.Feeds.{CountLine, Fed, arrives_before, arrives_by, TakesIn}
+use Rattle.pipes_minus.specs.Feeds.{CountLine, LineTook, arrives_before, arrives_by, TakesIn}
 use Rattle.pipes_minus.specs.Feeds.{Feeds}
 use Rattle.pipes_minus.specs.Feeds.{FeedsAll, WatchSees}
 
@@ -50,7 +50,7 @@ takes_in old passed arrived new s start is inside passes now over arrives trims 
       arrives a in
       let c = fed_trimmed minus_rule MinusTells arrived new low start (fed ++ s ∷ []) sent most
       trims b in
-      subst (λ (n : ℕ). Fed new low n (fed ++ s ∷ []) sent) is c);
+      subst (λ (n : ℕ). LineTook new low n (fed ++ s ∷ []) sent) is c);
 }
 
 pub feeds_none : (line : CountLine) (waits : List Arrival) (h : ℕ) → Feeds line line waits waits h
@@ -60,7 +60,7 @@ feeds_none line waits h = record {
     record {
       more = [];
       upto = upto;
-      line = subst (λ (es : List Arrival). Fed line low now es sent) (sym (append-nil fed)) f;
+      line = subst (λ (es : List Arrival). LineTook line low now es sent) (sym (append-nil fed)) f;
       split = λ g. omega arith;
       later = z;
     },
@@ -111,7 +111,7 @@ feeds_turn old mid new waits some left h s f is upto all takes = record {
         record {
           more = t.more ++ s ∷ [];
           upto = upto;
-          line = subst (λ (es : List Arrival). Fed new low s.1.span.start es sent)
+          line = subst (λ (es : List Arrival). LineTook new low s.1.span.start es sent)
               (append_assoc fed t.more (s ∷ []))
               (takes.good low m.0 (fed ++ t.more) sent from t.line);
           split = λ g. (let a = split g in

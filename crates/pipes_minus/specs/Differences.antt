@@ -6,8 +6,8 @@ use Rattle.pipes_tuple.specs.Bag.{count}
 use Rattle.pipes_tuple.proofs.Bags.{count-cons}
 use Rattle.pipes_relation.specs.Relations.{without, minus}
 use Rattle.pipes_timeline.specs.Rules.{Row, RowBags, SameOfKey, row_of_key, KeyRule}
-use Rattle.pipes_timeline.specs.Weights.{weigh}
-use Rattle.pipes_timeline.specs.WeightLaws.{weigh-count}
+use Rattle.pipes_stream.specs.Weights.{weigh}
+use Rattle.pipes_stream.proofs.Weights.{weigh-count}
 use Rattle.pipes_timeline.specs.LineMoves.{self-key, same-key}
 use Rattle.pipes_minus.specs.declared.counts.Counts.{Counts}
 

@@ -5,6 +5,7 @@ use Rattle.std.proofs.Common.{sym, ◌∙◌, subst, ap, arith}
 use Rattle.std.specs.List.{All}
 use Rattle.std.proofs.lemmas.Bool.Decides.{nat_tests}
 use Rattle.std.proofs.lemmas.List.Elements.{All-head, All-tail}
+use Rattle.pipes_timeline.specs.LineOpens.{not-held}
 use Rattle.pipes_time.specs.Interval.{Span, closed, IsInterval}
 use Rattle.pipes_tuple.specs.declared.value.Kind.{Kind}
 use Rattle.pipes_tuple.specs.Equal.{tuple_eq}
@@ -17,10 +18,10 @@ use Rattle.pipes_stream.specs.Snapshot.{is_held, snapshot}
 use Rattle.pipes_stream.specs.Lists.{start_of_list, beat, elements}
 use Rattle.pipes_stream.specs.Lawful.{Lists, Lawful, least, all_elements, open_count}
 use Rattle.pipes_stream.proofs.Messages.{beat-ended}
-use Rattle.pipes_timeline.specs.Weights.{weigh}
-use Rattle.pipes_timeline.specs.WeightLaws.{weigh-append, weigh-plus, weigh-same}
-use Rattle.pipes_timeline.specs.WeightLaws.{weigh-where, weigh-where_zero, weigh-filter}
-use Rattle.pipes_timeline.specs.WeightLaws.{weigh-count, weigh-length}
+use Rattle.pipes_stream.specs.Weights.{weigh}
+use Rattle.pipes_stream.proofs.Weights.{weigh-append, weigh-plus, weigh-same}
+use Rattle.pipes_stream.proofs.Weights.{weigh-where, weigh-where_zero, weigh-filter}
+use Rattle.pipes_stream.proofs.Weights.{weigh-count, weigh-length}
 use Rattle.pipes_timeline.specs.Rules.{Row, Arrival, rows_at, valid_at}
 use Rattle.pipes_timeline.specs.Lines.{ends_after, copy_at, Living}
 use Rattle.pipes_timeline.specs.LineMoves.{self-key, same-key, is_row, count-rows_at, none-weight}
@@ -46,9 +47,6 @@ held-row port x t s = pick (is_held s.1.span t) (eqb s.0 port)
     pick false true = refl
     pick false false = refl
 
-start-not_yet : (t : ℕ) (span : Span) → t < span.start → is_held span t ≡ false
-start-not_yet t span h = grind (arith, nat_tests)
-
 by-start : (h : ℕ) (s : Arrival) → arrives_by h s ≡ 0 → h < s.1.span.start
 by-start h s z = grind (arith, nat_tests)
 
@@ -59,7 +57,7 @@ waits-none h t port x waits low z =
     (λ s w. let a : h < s.1.span.start = by-start h s w in
     let b : copy_at x t s.1 ≡ 0 = none-weight (is_held s.1.span t)
     (cond (tuple_eq s.1.tuple x) 1 0)
-    (start-not_yet t s.1.span (omega (arith, a, low))) in
+    (not-held t s.1.span (omega (arith, a, low))) in
     none (eqb s.0 port) (copy_at x t s.1) b) waits z
   where
     none : (b : Bool) (n : ℕ) → n ≡ 0 → cond b n 0 ≡ 0

@@ -6,7 +6,7 @@ use Rattle.pipes_stream.specs.declared.Elem.{Elem}
 use Rattle.pipes_stream.specs.declared.message.Message.{Message}
 use Rattle.pipes_stream.specs.Lists.{run, start_of_list, Valid, elements}
 use Rattle.pipes_stream.specs.Lawful.{Lists, least}
-use Rattle.pipes_timeline.specs.Weights.{weigh}
+use Rattle.pipes_stream.specs.Weights.{weigh}
 use Rattle.pipes_timeline.specs.Rules.{Arrival}
 use Rattle.pipes_timeline.specs.Stands.{TimelineStands}
 use Rattle.pipes_minus.specs.declared.minus.Minus.{Minus}

@@ -9,8 +9,9 @@ ghost use Rattle.pipes_minus.specs.Minuses.{MinusStands};
 
 use crate::counts::{Counts, Difference};
 use pipes_stream::{Elem, Message, Operator, Watch};
+use pipes_sweep::append_progress;
 use pipes_time::Memory;
-use pipes_timeline::{Starts, Timeline, tell};
+use pipes_timeline::{Starts, Timeline};
 use pipes_tuple::Schema;
 use std::alloc::Global;
 
@@ -141,7 +142,7 @@ impl Minus {
         self.line.send(out)?;
         let reach = self.line.reach();
         let ended = both_ended(&self.left, &self.right);
-        tell(before, reach, ended, out)?;
+        append_progress(before, reach, ended, out)?;
         Ok(())
     }
 }

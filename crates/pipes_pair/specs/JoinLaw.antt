@@ -38,7 +38,8 @@ use Rattle.pipes_sweep.proofs.Places.{due-later, later-above}
 use Rattle.pipes_sweep.proofs.SentAt.{SentAt, sent_due}
 use Rattle.pipes_stream.proofs.Following.{arrived, arrived-fits, not_ended, intervals}
 use Rattle.pipes_sweep.proofs.TwoPorts.{moved}
-use Rattle.pipes_sweep.proofs.Kept.{length-Perm, until-open, until-closed}
+use Rattle.pipes_sweep.proofs.Kept.{until-open, until-closed}
+use Rattle.pipes_tuple.proofs.Perm.{length-Perm}
 use Rattle.pipes_pair.specs.declared.join.Join.{Join}
 use Rattle.pipes_pair.specs.declared.join.Matching.{Matching}
 use Rattle.pipes_pair.specs.declared.side.Side.{Side}

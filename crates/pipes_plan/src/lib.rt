@@ -14,4 +14,4 @@ pub use fault::{CheckFault, TypeRefusal};
 pub use lists::{Counts, Schemas};
 pub use pipes_expr::{Expr, Exprs, Op, Why, copy_exprs};
 pub use pipes_relation::{Agg, Aggs, Pair, Pairs};
-pub use plan::Plan;
+pub use plan::{Plan, distinct, filter, group, join, map, minus, union};

@@ -6,6 +6,7 @@ use Rattle.std.specs.List.{flat_map}
 use Rattle.std.specs.Option.{option_and_then}
 use Rattle.std.proofs.lemmas.Bool.{and_parts, leb-true}
 use Rattle.std.proofs.lemmas.Option.{slice_get_within}
+use Rattle.pipes_plan.proofs.PlanTyped.{flag_is}
 use Rattle.pipes_tuple.specs.declared.value.Value.{Value}
 use Rattle.pipes_tuple.specs.declared.value.Kind.{Kind}
 use Rattle.pipes_tuple.specs.declared.value.Kind.TheVariants as kind
@@ -100,12 +101,6 @@ exprs_fit s short (e ∷ es) t h vs =
     let w = all_kinds-cons (kind_in s e) (map (kind_in s) es) t h in
     let v = each_parts IsValue (literals_of e) (flat_map literals_of es) vs in
     (expr_fits s short e w.0 w.2 v.0, exprs_fit s short es w.1 w.3 v.1)
-
-flag_is : (o : Option Kind) → is_flag o ≡ true → o ≡ Some kind.Flag
-flag_is (Some kind.Flag) h = refl
-flag_is (Some kind.Int) h = absurd cc
-flag_is (Some kind.Text) h = absurd cc
-flag_is None h = absurd cc
 
 condition_fits : (s : List Kind) → length s ≤ 32 → (c : Expr) → is_flag (expr_kind c s) ≡ true
     → AreValues (literals_of c) → HasExprNodes c

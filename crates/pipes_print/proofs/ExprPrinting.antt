@@ -162,7 +162,7 @@ both_sides o d e p q =
     (write_apart kinds (sides_text o (expr_text d) (expr_text e))
     (sides_written o p.kinds q.kinds (expr_text d) (expr_text e) p.writes q.writes))
 
-below_zero : (i : ℕ) → pos 0 -ℤ pos (suc i) ≡ negsuc i
+pub below_zero : (i : ℕ) → pos 0 -ℤ pos (suc i) ≡ negsuc i
 below_zero i = omega (arith, ints)
 
 negative_printed : (i : ℕ) → i ≤ 9223372036854775808 → Prints

@@ -31,7 +31,7 @@ use Rattle.pipes_grammar.specs.Limits.{IsExprText, AreExprsText}
 use Rattle.pipes_print.specs.Printed.{AreSpelled}
 use Rattle.pipes_print.specs.Writable.{Each, HasExprNodes, column, literal, binary, negated}
 use Rattle.pipes_print.specs.Writable.{IsWritableExpr, AreWritableExprs}
-use Rattle.pipes_print.proofs.ExprPrinting.{spelled_parts, kind_of, op_again}
+use Rattle.pipes_print.proofs.ExprPrinting.{spelled_parts, kind_of, op_again, below_zero}
 
 -- ---- kinds of tokens that some bytes spell
 
@@ -63,9 +63,6 @@ pub record Sentence {A : Type 0} (Is : A → List TokenKind → Type 0) (x : A) 
   pub kinds : List TokenKind
   pub is : Is x kinds
   pub spelled : AreSpelled kinds
-
-below_zero : (i : ℕ) → pos 0 -ℤ pos (suc i) ≡ negsuc i
-below_zero i = omega (arith, ints)
 
 int_sentence : (z : ℤ) → FitsSigned w64 z → Sentence IsExpr (expr.Literal (value.Int z))
 int_sentence (pos n) fits = record {

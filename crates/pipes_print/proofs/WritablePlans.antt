@@ -29,7 +29,8 @@ use Rattle.pipes_print.specs.Printed.{AreSpelled, ExprPrinted, ExprsPrinted, Pla
 use Rattle.pipes_print.specs.Writable.{Each, HasExprNodes, IsWritableExpr, AreWritableExprs}
 use Rattle.pipes_print.specs.Writable.{IsColumnNumber, HasPairColumns, HasAggColumn, HasPlanNodes}
 use Rattle.pipes_print.specs.Writable.{source, filter, mapped, union, join, distinct, group, minus}
-use Rattle.pipes_print.specs.Writable.{IsWritablePlan, IsSourceName, AreSourceNames}
+use Rattle.pipes_print.specs.Writable.{IsWritablePlan, AreSourceNames}
+use Rattle.pipes_reader.specs.Names.{IsSourceName}
 use Rattle.pipes_print.proofs.ExprPrinting.{spelled_parts}
 use Rattle.pipes_print.proofs.Again.{expr_again, exprs_again, plan_again}
 use Rattle.pipes_print.proofs.WritableExprs.{spelled_append, sign_spelled, keyword_spelled}

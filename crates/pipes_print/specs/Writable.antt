@@ -4,7 +4,6 @@ use Rattle.std.specs.List.{flat_map}
 use Rattle.pipes_tuple.specs.declared.value.Value.{Value}
 use Rattle.pipes_tuple.specs.declared.value.Kind.{Kind}
 use Rattle.pipes_tuple.specs.Limits.{IsValue}
-use Rattle.pipes_token.specs.Spelling.{IsShortWord, IsKeyword}
 use Rattle.pipes_expr.specs.declared.op.Op.{Op}
 use Rattle.pipes_expr.specs.declared.expr.Expr.{Expr, fold-Expr}
 use Rattle.pipes_expr.specs.declared.expr.Expr.TheOpen.{Expr-F, Col, Literal, Binary, Not}
@@ -20,7 +19,7 @@ use Rattle.pipes_plan.specs.declared.plan.Plan.TheVariants as plan
 use Rattle.pipes_plan.specs.PlanKinds.{IsTyped}
 use Rattle.pipes_plan.specs.Refusals.{Checks}
 use Rattle.pipes_plan.specs.Sizes.{plan_depth}
-use Rattle.pipes_reader.specs.Names.{AreNew}
+use Rattle.pipes_reader.specs.Names.{AreNew, IsSourceName}
 use Rattle.pipes_grammar.specs.Limits.{deepest, deepest_expr, longest_list}
 
 -- this holds of each
@@ -127,10 +126,6 @@ pub record IsCheckedPlan (sources : ℕ) (p : Plan) : Type 0 where
   pub literals : Each IsValue (plan_literals p)
 
 -- ---- names of sources
-
--- a word of at most 64 bytes that is no keyword
-abbrev pub IsSourceName : List ℕ → Type 0
-IsSourceName name = IsShortWord name × ¬ (IsKeyword name)
 
 -- each of them declared once
 pub record AreSourceNames (names : List (List ℕ)) : Type 0 where

@@ -7,9 +7,9 @@ ghost use Rattle.pipes_print.specs.Printed.{AreSpelled, ExprPrinted, ExprsPrinte
 ghost use Rattle.pipes_print.specs.Writable.{IsWritableExpr, AreWritableExprs};
 
 use crate::list::{Entry, push_list};
-use crate::piece::{push, push_number, push_value};
 use pipes_plan::{Expr, Op};
 use pipes_time::Memory;
+use pipes_tuple::{append, append_number};
 
 /// Appends the text of the expression. After out of memory `out` is as before.
 #[tactic(auto, using(crate::proofs::WritablePlans::expr_printed, crate::proofs::WritablePlans::expr_writable))]
@@ -24,7 +24,7 @@ pub fn print_expr(expr: &Expr, out: &mut Vec<u8>) -> Result<(), Memory>
 {
     let mut text = Vec::new(*out.allocator());
     push_expr(expr, &mut text)?;
-    push(text.as_slice(), out)
+    append(text.as_slice(), out)
 }
 
 /// Appends the text of the list of expressions, in brackets. After out of memory `out` is as
@@ -41,7 +41,7 @@ pub fn print_exprs(exprs: &[Expr], out: &mut Vec<u8>) -> Result<(), Memory>
 {
     let mut text = Vec::new(*out.allocator());
     push_list(exprs, &mut text)?;
-    push(text.as_slice(), out)
+    append(text.as_slice(), out)
 }
 
 impl Entry for Expr {
@@ -61,13 +61,13 @@ pub(crate) fn push_expr(expr: &Expr, out: &mut Vec<u8>) -> Result<(), Memory>
 {
     match expr {
         Expr::Col(column) => {
-            push(b"$", out)?;
-            push_number(*column, out)
+            append(b"$", out)?;
+            append_number(u64::from(*column), out)
         }
-        Expr::Literal(value) => push_value(value, out),
+        Expr::Literal(value) => value.print(out),
         Expr::Binary(op, a, b) => push_sides(a.get(), *op, b.get(), out),
         Expr::Not(a) => {
-            push(b"not ", out)?;
+            append(b"not ", out)?;
             push_expr(a.get(), out)
         }
     }
@@ -79,11 +79,11 @@ fn push_sides(a: &Expr, op: Op, b: &Expr, out: &mut Vec<u8>) -> Result<(), Memor
     ensures { OnOk result (out.new.items ≡ out.old.items ++ sides_text op (expr_text a.now)
         (expr_text b.now)) }
 {
-    push(b"(", out)?;
+    append(b"(", out)?;
     push_expr(a, out)?;
-    push(between(op), out)?;
+    append(between(op), out)?;
     push_expr(b, out)?;
-    push(b")", out)
+    append(b")", out)
 }
 
 // What stands between the two sides.

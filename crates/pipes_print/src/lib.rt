@@ -4,7 +4,6 @@
 mod expr;
 mod list;
 mod literals;
-mod piece;
 mod plan;
 
 pub use expr::{print_expr, print_exprs};

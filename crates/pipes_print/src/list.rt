@@ -4,9 +4,9 @@ ghost use Rattle.std.specs.Fmt.{decimal};
 ghost use Rattle.std.specs.List.{flat_map};
 ghost use Rattle.pipes_print.specs.ExprText.{entries_text, list_text};
 
-use crate::piece::{push, push_number};
 use pipes_plan::{Agg, Pair};
 use pipes_time::Memory;
+use pipes_tuple::{append, append_number};
 
 // What has a text of its own in a list.
 pub(crate) trait Entry {
@@ -23,7 +23,7 @@ impl Entry for u32 {
     ghost text = { decimal };
 
     fn push_to(&self, out: &mut Vec<u8>) -> Result<(), Memory> {
-        push_number(*self, out)
+        append_number(u64::from(*self), out)
     }
 }
 
@@ -33,9 +33,9 @@ impl Entry for Pair {
     ghost text = { pair_text };
 
     fn push_to(&self, out: &mut Vec<u8>) -> Result<(), Memory> {
-        push_number(self.left, out)?;
-        push(b"=", out)?;
-        push_number(self.right, out)
+        append_number(u64::from(self.left), out)?;
+        append(b"=", out)?;
+        append_number(u64::from(self.right), out)
     }
 }
 
@@ -46,7 +46,7 @@ impl Entry for Agg {
 
     fn push_to(&self, out: &mut Vec<u8>) -> Result<(), Memory> {
         match self {
-            Agg::Count => push(b"count", out),
+            Agg::Count => append(b"count", out),
             Agg::Sum(column) => push_word(b"sum ", *column, out),
             Agg::Min(column) => push_word(b"min ", *column, out),
             Agg::Max(column) => push_word(b"max ", *column, out),
@@ -59,17 +59,17 @@ impl Entry for Agg {
 fn push_word(word: &[u8], number: u32, out: &mut Vec<u8>) -> Result<(), Memory>
     ensures { OnOk result (out.new.items ≡ out.old.items ++ (word.now ++ decimal number)) }
 {
-    push(word, out)?;
-    push_number(number, out)
+    append(word, out)?;
+    append_number(u64::from(number), out)
 }
 
 // Appends the list in brackets.
 pub(crate) fn push_list<T: Entry>(entries: &[T], out: &mut Vec<u8>) -> Result<(), Memory>
     ensures { OnOk result (out.new.items ≡ out.old.items ++ list_text T.text entries.now) }
 {
-    push(b"[", out)?;
+    append(b"[", out)?;
     push_entries(entries, out)?;
-    push(b"]", out)
+    append(b"]", out)
 }
 
 // Appends the entries.
@@ -100,6 +100,6 @@ fn push_others<T: Entry>(entries: &[T], out: &mut Vec<u8>) -> Result<(), Memory>
 fn push_next<T: Entry>(entry: &T, out: &mut Vec<u8>) -> Result<(), Memory>
     ensures { OnOk result (out.new.items ≡ out.old.items ++ (codes ", " ++ T.text entry.now)) }
 {
-    push(b", ", out)?;
+    append(b", ", out)?;
     entry.push_to(out)
 }

@@ -9,10 +9,9 @@ ghost use Rattle.pipes_print.specs.Writable.{AreSourceNames, IsWritablePlan, IsC
 
 use crate::expr::push_expr;
 use crate::list::push_list;
-use crate::piece::push;
 use pipes_plan::Plan;
 use pipes_time::Memory;
-use pipes_tuple::Text;
+use pipes_tuple::{Text, append};
 
 /// Appends the text of the plan over sources with these names, in order. After out of memory `out`
 /// is as before.
@@ -32,7 +31,7 @@ pub fn print_plan(names: &[Text], plan: &Plan, out: &mut Vec<u8>) -> Result<(), 
 {
     let mut text = Vec::new(*out.allocator());
     push_plan(names, plan, &mut text)?;
-    push(text.as_slice(), out)
+    append(text.as_slice(), out)
 }
 
 // Appends the text of the plan.
@@ -43,41 +42,41 @@ fn push_plan(names: &[Text], plan: &Plan, out: &mut Vec<u8>) -> Result<(), Memor
     match plan {
         Plan::Source(source) => push_source(names, *source, out),
         Plan::Filter(condition, a) => {
-            push(b"filter(", out)?;
+            append(b"filter(", out)?;
             push_expr(condition, out)?;
             push_last(names, a.get(), out)
         }
         Plan::Map(exprs, a) => {
-            push(b"map(", out)?;
+            append(b"map(", out)?;
             push_list(exprs.as_slice(), out)?;
             push_last(names, a.get(), out)
         }
         Plan::Union(a, b) => {
-            push(b"union(", out)?;
+            append(b"union(", out)?;
             push_both(names, a.get(), b.get(), out)
         }
         Plan::Join(pairs, condition, a, b) => {
-            push(b"join(", out)?;
+            append(b"join(", out)?;
             push_list(pairs.as_slice(), out)?;
-            push(b", ", out)?;
+            append(b", ", out)?;
             push_expr(condition, out)?;
-            push(b", ", out)?;
+            append(b", ", out)?;
             push_both(names, a.get(), b.get(), out)
         }
         Plan::Distinct(a) => {
-            push(b"distinct(", out)?;
+            append(b"distinct(", out)?;
             push_plan(names, a.get(), out)?;
-            push(b")", out)
+            append(b")", out)
         }
         Plan::Group(columns, aggs, a) => {
-            push(b"group(", out)?;
+            append(b"group(", out)?;
             push_list(columns.as_slice(), out)?;
-            push(b", ", out)?;
+            append(b", ", out)?;
             push_list(aggs.as_slice(), out)?;
             push_last(names, a.get(), out)
         }
         Plan::Minus(a, b) => {
-            push(b"minus(", out)?;
+            append(b"minus(", out)?;
             push_both(names, a.get(), b.get(), out)
         }
     }
@@ -89,9 +88,9 @@ fn push_last(names: &[Text], plan: &Plan, out: &mut Vec<u8>) -> Result<(), Memor
     ensures { OnOk result (out.new.items ≡ out.old.items ++ (codes ", "
         ++ (plan_text names.now plan.now ++ codes ")"))) }
 {
-    push(b", ", out)?;
+    append(b", ", out)?;
     push_plan(names, plan, out)?;
-    push(b")", out)
+    append(b")", out)
 }
 
 // Appends the two plans of a node.
@@ -109,7 +108,7 @@ fn push_source(names: &[Text], source: u32, out: &mut Vec<u8>) -> Result<(), Mem
     ensures { OnOk result (out.new.items ≡ out.old.items ++ source_text names.now source) }
 {
     match names.get(source as usize) {
-        Some(name) => push(name.as_str().as_bytes(), out),
+        Some(name) => append(name.as_str().as_bytes(), out),
         None => Ok(()),
     }
 }

@@ -19,7 +19,8 @@ pub why_map : (G G2 : TokenKind â†’ Type 0) (F F2 : Type 0) (S S2 : TokenKind â†
 why_map G G2 F F2 S S2 g f _ _ s (own k w e) = own k w e
 why_map G G2 F F2 S S2 g f _ _ s (broken r content goes) = broken r content (g (Text content) goes)
 why_map G G2 F F2 S S2 g f _ _ s (other_number n m goes) = other_number n m (g (Number m) goes)
-why_map G G2 F F2 S S2 g f _ _ s (other_word k w is goes) = other_word k w is (g (Name w) goes)
+why_map G G2 F F2 S S2 g f _ _ s (other_word k w is named goes) =
+    other_word k w is named (g (Name w) goes)
 why_map G G2 F F2 S S2 g f _ _ s (over_limit k w is (inl goes)) = over_limit k w is (inl (g k goes))
 why_map G G2 F F2 S S2 g f _ _ s (over_limit k w is (inr full)) = over_limit k w is (inr (f full))
 why_map G G2 F F2 S S2 g f _ _ s (not_allowed k e stuck) = not_allowed k e

@@ -6,4 +6,6 @@ pub mod Repeats
 pub mod Loops
 pub mod Wholes
 pub mod Fresh
+pub mod ShortNames
+pub mod Spelled
 pub mod Values

@@ -29,9 +29,9 @@ pub record RefusedAt {A B : Type 0} (Is : Grammar A) (Where : Refusals)
   pub cause : CauseOf Is read before refused.kind r.why
 
 -- Is: the grammar without limits. In: its sentences within the limits, each before the tokens
--- before which it may be.
-pub record IsReader {A : Type 0} (Is : Grammar A) (In : GrammarBefore A) (Where : Refusals)
-    (read : Reads A) : Type 0 where
+-- before which it may be. Holds: the tokens of which the law on refusals is known.
+pub record IsReaderIf {A : Type 0} (Holds : List Token → Type 0) (Is : Grammar A)
+    (In : GrammarBefore A) (Where : Refusals) (read : Reads A) : Type 0 where
   -- what is read is a sentence,
   pub found : (ts : List Token) (x : A) (rest : List Token) → read ts ≡ Ok (x, rest)
       → Prefix In x ts rest
@@ -46,7 +46,24 @@ pub record IsReader {A : Type 0} (Is : Grammar A) (In : GrammarBefore A) (Where 
   pub unended : (x : A) (ks : List TokenKind) → Is x ks → has_last ks ≡ false
   -- and before that one a refusal comes at the first token with which nothing goes on.
   pub first : (ts : List Token) (r : Refusal) → has_last (kinds_of ts) ≡ true → read ts ≡ Err r
-      → RefusedAt Is Where read ts r
+      → Holds ts → RefusedAt Is Where read ts r
+
+-- the same of all tokens
+abbrev pub IsReader : {A : Type 0} → Grammar A → GrammarBefore A → Refusals → Reads A → Type 0
+IsReader Is In Where read = IsReaderIf (λ ts. Unit {0}) Is In Where read
+
+-- of fewer tokens
+pub under : {A : Type 0} {Is : Grammar A} {In : GrammarBefore A} {Where : Refusals} {read : Reads A}
+    {Holds Holds2 : List Token → Type 0} → ((ts : List Token) → Holds2 ts → Holds ts)
+    → IsReaderIf Holds Is In Where read → IsReaderIf Holds2 Is In Where read
+under keeps one = record {
+  found = one.found;
+  only = one.only;
+  wider = one.wider;
+  alike = one.alike;
+  unended = one.unended;
+  first = λ ts r h e holds. one.first ts r h e (keeps ts holds);
+}
 
 -- ---- one sentence after the other
 
@@ -100,16 +117,20 @@ Continues {A} In next = (x : A) (ks : List TokenKind) (h : Option TokenKind) →
 
 module _ {A B : Type 0} (Is : Grammar A) (In : GrammarBefore A) (Next : A → Grammar B)
     (NextIn : A → GrammarBefore B) (First : Refusals) (Second : A → Refusals) (Where : Refusals)
-    (read : Reads A) (next : A → Reads B) (one : IsReader Is In First read)
+    (read : Reads A) (next : A → Reads B) {Holds HoldsFirst : List Token → Type 0}
+    {HoldsSecond : A → List Token → Type 0} (one : IsReaderIf HoldsFirst Is In First read)
     (two : (x : A) (ks : List TokenKind) → Is x ks
-    → IsReader (Next x) (NextIn x) (Second x) (next x))
+    → IsReaderIf (HoldsSecond x) (Next x) (NextIn x) (Second x) (next x))
     (some : (x : A) (ks : List TokenKind) → Is x ks → Begins (Next x) [])
     (goes_on : Continues In next)
     (place_first : (before : List Token) (t : Token) (r : Refusal) → First before t r
     → Where before t r)
     (place_second : (x : A) (prefix before : List Token) (t : Token) (r : Refusal)
     → In x (kinds_of prefix) (next_of (before ++ (t ∷ []))) → Second x before t r
-    → Where (prefix ++ before) t r) where
+    → Where (prefix ++ before) t r)
+    (keeps_first : (ts : List Token) → Holds ts → HoldsFirst ts)
+    (keeps_second : (x : A) (prefix us : List Token) → In x (kinds_of prefix) (next_of us)
+    → Holds (prefix ++ us) → HoldsSecond x us) where
   found_both : (ts : List Token) (y : B) (rest : List Token) (q : Result (A × List Token) Refusal)
       → read ts ≡ q → (q >>= λ x. next x.0 x.1) ≡ Ok (y, rest)
       → Prefix (ThenBefore In NextIn) y ts rest
@@ -269,16 +290,19 @@ module _ {A B : Type 0} (Is : Grammar A) (In : GrammarBefore A) (Next : A → Gr
           ∙ next-same s.before s.refused s.after other) w
 
   first_by : (ts : List Token) (r : Refusal) (q : Result (A × List Token) Refusal)
-      → has_last (kinds_of ts) ≡ true → read ts ≡ q → (q >>= λ x. next x.0 x.1) ≡ Err r
+      → has_last (kinds_of ts) ≡ true → read ts ≡ q → (q >>= λ x. next x.0 x.1) ≡ Err r → Holds ts
       → RefusedAt (Then Is Next) Where (in_turn read next) ts r
-  first_by ts r (Err d) h is e = at_first ts r (one.first ts r h (is ∙ cc))
-  first_by ts r (Ok (x, us)) h is e =
+  first_by ts r (Err d) h is e holds =
+      at_first ts r (one.first ts r h (is ∙ cc) (keeps_first ts holds))
+  first_by ts r (Ok (x, us)) h is e holds =
       let f = one.found ts x us is in
       let wide = one.wider x (kinds_of f.0) (next_of us) f.1 in
       let left = last_after f.0 us ts (one.unended x (kinds_of f.0) wide) f.2 h in
-      at_second ts r x f.0 us f.1 f.2 ((two x (kinds_of f.0) wide).first us r left e)
+      at_second ts r x f.0 us f.1 f.2 ((two x (kinds_of f.0) wide).first us r left e
+      (keeps_second x f.0 us f.1 (subst (λ (z : List Token). Holds z) f.2 holds)))
 
-  pub reads_in_turn : IsReader (Then Is Next) (ThenBefore In NextIn) Where (in_turn read next)
+  pub reads_in_turn : IsReaderIf Holds (Then Is Next) (ThenBefore In NextIn) Where
+      (in_turn read next)
   reads_in_turn = record {
     found = λ ts y rest e. found_both ts y rest (read ts) refl e;
     only = λ y prefix rest is. only_both y (kinds_of prefix) (next_of rest) is prefix rest refl
@@ -286,7 +310,7 @@ module _ {A B : Type 0} (Is : Grammar A) (In : GrammarBefore A) (Next : A → Gr
     wider = wider_both;
     alike = λ y ks k j a is. alike_both y ks (Some k) is k j a refl;
     unended = unended_both;
-    first = λ ts r h e. first_by ts r (read ts) h refl e;
+    first = λ ts r h e holds. first_by ts r (read ts) h refl e holds;
   }
 
 -- ---- the same, where a refusal's place is at its token
@@ -296,23 +320,36 @@ pub moves : (prefix before : List Token) (t : Token) (r : Refusal) → AtToken b
 moves prefix before t r (there e) = there e
 moves prefix before t r (inside e) = inside e
 
-pub turns_if : {A B : Type 0} (Is : Grammar A) (In : GrammarBefore A) (Next : A → Grammar B)
-    (NextIn : A → GrammarBefore B) (read : Reads A) (next : A → Reads B)
-    → IsReader Is In AtToken read
-    → ((x : A) (ks : List TokenKind) → Is x ks → IsReader (Next x) (NextIn x) AtToken (next x))
+pub turns_room : {A B : Type 0} (Room : Type 0) (Is : Grammar A) (In : GrammarBefore A)
+    (Next : A → Grammar B) (NextIn : A → GrammarBefore B) (read : Reads A) (next : A → Reads B)
+    → IsReaderIf (λ ts. Room) Is In AtToken read
+    → ((x : A) (ks : List TokenKind) → Is x ks
+    → IsReaderIf (λ ts. Room) (Next x) (NextIn x) AtToken (next x))
     → ((x : A) (ks : List TokenKind) → Is x ks → Begins (Next x) []) → Continues In next
-    → IsReader (Then Is Next) (ThenBefore In NextIn) AtToken (in_turn read next)
-turns_if Is In Next NextIn read next one two some goes_on =
+    → IsReaderIf (λ ts. Room) (Then Is Next) (ThenBefore In NextIn) AtToken (in_turn read next)
+turns_room Room Is In Next NextIn read next one two some goes_on =
     reads_in_turn Is In Next NextIn AtToken (λ x. AtToken) AtToken read next one two some goes_on
     (λ before t r p. p) (λ x prefix before t r w p. moves prefix before t r p)
+    (λ ts room. room) (λ x prefix us is room. room)
+
+pub turns_if : {A B : Type 0} (Is : Grammar A) (In : GrammarBefore A) (Next : A → Grammar B)
+    (NextIn : A → GrammarBefore B) (read : Reads A) (next : A → Reads B) {Room : Type 0}
+    → IsReaderIf (λ ts. Room) Is In AtToken read
+    → ((x : A) (ks : List TokenKind) → Is x ks → IsReader (Next x) (NextIn x) AtToken (next x))
+    → ((x : A) (ks : List TokenKind) → Is x ks → Begins (Next x) []) → Continues In next
+    → IsReaderIf (λ ts. Room) (Then Is Next) (ThenBefore In NextIn) AtToken (in_turn read next)
+turns_if Is In Next NextIn read next {Room} one two some goes_on =
+    turns_room Room Is In Next NextIn read next one
+    (λ x ks is. under (λ ts room. tt) (two x ks is)) some goes_on
 
 -- and where anything may follow the first sentence
 pub turns : {A B : Type 0} (Is Within : Grammar A) (Next : A → Grammar B)
-    (NextIn : A → GrammarBefore B) (read : Reads A) (next : A → Reads B)
-    → IsReader Is (Anywhere Within) AtToken read
+    (NextIn : A → GrammarBefore B) (read : Reads A) (next : A → Reads B) {Room : Type 0}
+    → IsReaderIf (λ ts. Room) Is (Anywhere Within) AtToken read
     → ((x : A) (ks : List TokenKind) → Is x ks → IsReader (Next x) (NextIn x) AtToken (next x))
     → ((x : A) (ks : List TokenKind) → Is x ks → Begins (Next x) [])
-    → IsReader (Then Is Next) (ThenBefore (Anywhere Within) NextIn) AtToken (in_turn read next)
+    → IsReaderIf (λ ts. Room) (Then Is Next) (ThenBefore (Anywhere Within) NextIn) AtToken
+    (in_turn read next)
 turns Is Within Next NextIn read next one two some =
     turns_if Is (Anywhere Within) Next NextIn read next one two some
     (λ x ks h is. inl (λ j. is))
@@ -339,12 +376,12 @@ module _ {A B : Type 0} (Is Is2 : Grammar A) (Where Where2 : Refusals)
   }
 
 pub reworded : {A : Type 0} (Is Is2 : Grammar A) (In In2 : GrammarBefore A) (Where : Refusals)
-    (read : Reads A) → IsReader Is In Where read
+    (read : Reads A) {Holds : List Token → Type 0} → IsReaderIf Holds Is In Where read
     → ((x : A) (ks : List TokenKind) → Is x ks → Is2 x ks)
     → ((x : A) (ks : List TokenKind) → Is2 x ks → has_last ks ≡ false)
     → ((x : A) (ks : List TokenKind) (h : Option TokenKind) → In x ks h → In2 x ks h)
     → ((x : A) (ks : List TokenKind) (h : Option TokenKind) → In2 x ks h → In x ks h)
-    → IsReader Is2 In2 Where read
+    → IsReaderIf Holds Is2 In2 Where read
 reworded {A} Is Is2 In In2 Where read one to unended within back = record {
   found = λ ts x rest e.
       let f = one.found ts x rest e in
@@ -353,22 +390,22 @@ reworded {A} Is Is2 In In2 Where read one to unended within back = record {
   wider = λ x ks h is. to x ks (one.wider x ks h (back x ks h is));
   alike = λ x ks k j a is. within x ks (Some j) (one.alike x ks k j a (back x ks (Some k) is));
   unended = unended;
-  first = λ ts r h e. refused_as_well Is Is2 Where Where to (λ before t r p. p) read ts r
-      (one.first ts r h e);
+  first = λ ts r h e holds. refused_as_well Is Is2 Where Where to (λ before t r p. p) read ts r
+      (one.first ts r h e holds);
 }
 
 pub replaced : {A : Type 0} (Is : Grammar A) (In : GrammarBefore A) (Where Where2 : Refusals)
-    (read : Reads A) → IsReader Is In Where read
+    (read : Reads A) {Holds : List Token → Type 0} → IsReaderIf Holds Is In Where read
     → ((before : List Token) (t : Token) (r : Refusal) → Where before t r → Where2 before t r)
-    → IsReader Is In Where2 read
+    → IsReaderIf Holds Is In Where2 read
 replaced Is In Where Where2 read one place = record {
   found = one.found;
   only = one.only;
   wider = one.wider;
   alike = one.alike;
   unended = one.unended;
-  first = λ ts r h e. refused_as_well Is Is Where Where2 (λ x ks is. is) place read ts r
-      (one.first ts r h e);
+  first = λ ts r h e holds. refused_as_well Is Is Where Where2 (λ x ks is. is) place read ts r
+      (one.first ts r h e holds);
 }
 
 -- ---- the law on first places

@@ -10,7 +10,8 @@ use Rattle.pipes_reader.specs.Sentences.{Grammar, GrammarBefore, Anywhere, Begin
 use Rattle.pipes_reader.specs.Sentences.{has_last}
 use Rattle.pipes_reader.specs.Places.{Refusals, AtToken}
 use Rattle.pipes_reader.proofs.TokenLists.{both_unended}
-use Rattle.pipes_reader.proofs.Readers.{IsReader, Then, both, ThenBefore, turn, reads_in_turn}
+use Rattle.pipes_reader.proofs.Readers.{IsReader, IsReaderIf, under, Then, both, ThenBefore, turn}
+use Rattle.pipes_reader.proofs.Readers.{reads_in_turn}
 use Rattle.pipes_reader.proofs.Readers.{IsFree, ReadsSome, reworded, moves}
 use Rattle.pipes_reader.proofs.Singles.{Pure, pure, none_by}
 
@@ -39,6 +40,11 @@ GoesIs Others (s, false) = Pure s
 abbrev pub GoesBefore : {S : Type 0} → (S → GrammarBefore S) → S × Bool → GrammarBefore S
 GoesBefore Others (s, true) = Others s
 GoesBefore Others (s, false) = Anywhere (Pure s)
+
+-- what is left of the room
+abbrev pub GoesFits : {S : Type 0} → (S → Type 0) → S × Bool → List Token → Type 0
+GoesFits Fits (s, true) = λ ts. Fits s
+GoesFits Fits (s, false) = λ ts. Unit {0}
 
 abbrev pub GoesPlace : {S : Type 0} → (S → Refusals) → S × Bool → Refusals
 GoesPlace Where (s, true) = Where s
@@ -113,8 +119,8 @@ StepsOn {S} StepIn step over_read = (left : ℕ) (s s2 : S) (ks : List TokenKind
 
 module _ {S : Type 0} (Step : S → Grammar (S × Bool)) (StepIn : S → GrammarBefore (S × Bool))
     (Over : S → GrammarBefore S) (step : S → Reads (S × Bool)) (over_read : S → Reads S)
-    (StepWhere Where : S → Refusals)
-    (steps : (s : S) → IsReader (Step s) (StepIn s) (StepWhere s) (step s))
+    (StepWhere Where : S → Refusals) (Room : S → Type 0) (Fits : ℕ → S → Type 0)
+    (steps : (s : S) → IsReaderIf (λ ts. Room s) (Step s) (StepIn s) (StepWhere s) (step s))
     (overs : (s : S) → IsReader (Many Step s) (Over s) (Where s) (over_read s))
     (some : (s : S) → Begins (Many Step s) [])
     (place_step : (s : S) (before : List Token) (t : Token) (r : Refusal) → StepWhere s before t r
@@ -122,20 +128,28 @@ module _ {S : Type 0} (Step : S → Grammar (S × Bool)) (StepIn : S → Grammar
     (place_rest : (s s2 : S) (prefix before : List Token) (t : Token) (r : Refusal)
     → StepIn s (s2, true) (kinds_of prefix) (next_of (before ++ (t ∷ []))) → Where s2 before t r
     → Where s (prefix ++ before) t r)
-    (steps_on : StepsOn StepIn step over_read) where
+    (steps_on : StepsOn StepIn step over_read)
+    (room : (left : ℕ) (s : S) → Fits (suc left) s → Room s)
+    (kept : (left : ℕ) (s s2 : S) (ks : List TokenKind) (h : Option TokenKind)
+    → StepIn s (s2, true) ks h → Fits (suc left) s → Fits left s2) where
   place_goes : (s : S) (o : S × Bool) (prefix before : List Token) (t : Token) (r : Refusal)
       → StepIn s o (kinds_of prefix) (next_of (before ++ (t ∷ []))) → GoesPlace Where o before t r
       → Where s (prefix ++ before) t r
   place_goes s (s2, true) prefix before t r is place = place_rest s s2 prefix before t r is place
   place_goes s (s2, false) prefix before t r is place = absurd place
 
-  goes_on : (o : S × Bool) (Others : S → Grammar S) (OthersIn : S → GrammarBefore S)
-      (others : S → Reads S)
-      → ((s : S) → IsReader (Others s) (OthersIn s) (Where s) (others s))
-      → IsReader (GoesIs Others o) (GoesBefore OthersIn o) (GoesPlace Where o)
-      (followed o.1 o.0 (others o.0))
-  goes_on (s, true) Others OthersIn others reads = reads s
-  goes_on (s, false) Others OthersIn others reads = none_by (λ before t r. ⊥) s
+  goes_on : (o : S × Bool) (FitsOn : S → Type 0) (Others : S → Grammar S)
+      (OthersIn : S → GrammarBefore S) (others : S → Reads S)
+      → ((s : S) → IsReaderIf (λ ts. FitsOn s) (Others s) (OthersIn s) (Where s) (others s))
+      → IsReaderIf (GoesFits FitsOn o) (GoesIs Others o) (GoesBefore OthersIn o)
+      (GoesPlace Where o) (followed o.1 o.0 (others o.0))
+  goes_on (s, true) FitsOn Others OthersIn others reads = reads s
+  goes_on (s, false) FitsOn Others OthersIn others reads = none_by (λ before t r. ⊥) s
+
+  kept_by : (left : ℕ) (s : S) (o : S × Bool) (ks : List TokenKind) (h : Option TokenKind)
+      (ts : List Token) → StepIn s o ks h → Fits (suc left) s → GoesFits (Fits left) o ts
+  kept_by left s (s2, true) ks h ts is fits = kept left s s2 ks h is fits
+  kept_by left s (s2, false) ks h ts is fits = tt
 
   continues : (left : ℕ) (s : S) (o : S × Bool) (ks : List TokenKind) (h : Option TokenKind)
       → StepIn s o ks h
@@ -145,20 +159,20 @@ module _ {S : Type 0} (Step : S → Grammar (S × Bool)) (StepIn : S → Grammar
   continues left s (s2, false) ks h is = inr ([], s2, [], refl)
 
   reads_zero : (s : S)
-      → IsReader (Many Step s) (ManyBefore StepIn Over 0 s) (Where s)
+      → IsReaderIf (λ ts. Fits 0 s) (Many Step s) (ManyBefore StepIn Over 0 s) (Where s)
       (many_within 0 step over_read s)
   unfolding many_within
   reads_zero s =
       reworded (Many Step s) (Many Step s) (Over s) (ManyBefore StepIn Over 0 s) (Where s)
-      (over_read s)
-      (overs s) (λ x ks is. is) (overs s).unended (λ x ks h is. over s x ks h is)
+      (over_read s) (under (λ ts fits. tt) (overs s)) (λ x ks is. is) (overs s).unended
+      (λ x ks h is. over s x ks h is)
       (λ x ks h is. left_over StepIn Over 0 s x ks h is refl)
 
   reads_more : (left : ℕ)
-      → ((s : S) → IsReader (Many Step s) (ManyBefore StepIn Over left s) (Where s)
-      (many_within left step over_read s))
-      → (s : S) → IsReader (Many Step s) (ManyBefore StepIn Over (suc left) s) (Where s)
-      (many_within (suc left) step over_read s)
+      → ((s : S) → IsReaderIf (λ ts. Fits left s) (Many Step s) (ManyBefore StepIn Over left s)
+      (Where s) (many_within left step over_read s))
+      → (s : S) → IsReaderIf (λ ts. Fits (suc left) s) (Many Step s)
+      (ManyBefore StepIn Over (suc left) s) (Where s) (many_within (suc left) step over_read s)
   unfolding many_within
   reads_more left others s =
       reworded (Then (Step s) (GoesIs (Many Step))) (Many Step s)
@@ -168,20 +182,41 @@ module _ {S : Type 0} (Step : S → Grammar (S × Bool)) (StepIn : S → Grammar
       (GoesBefore (ManyBefore StepIn Over left))
       (StepWhere s) (GoesPlace Where) (Where s) (step s)
       (λ o. followed o.1 o.0 (many_within left step over_read o.0)) (steps s)
-      (λ o ks is. goes_on o (Many Step) (ManyBefore StepIn Over left)
+      (λ o ks is. goes_on o (Fits left) (Many Step) (ManyBefore StepIn Over left)
       (λ z. many_within left step over_read z) others)
       (λ o ks is. some_goes Step some o) (continues left s) (place_step s)
-      (λ o prefix before t r is place. place_goes s o prefix before t r is place))
+      (λ o prefix before t r is place. place_goes s o prefix before t r is place)
+      (λ ts fits. room left s fits)
+      (λ o prefix us is fits. kept_by left s o (kinds_of prefix) (next_of us) us is fits))
       (gathered Step s) (overs s).unended (within StepIn Over left s)
       (λ x ks h is. apart StepIn Over (suc left) left s x ks h is refl)
 
   pub many_by : (left : ℕ) (s : S)
-      → IsReader (Many Step s) (ManyBefore StepIn Over left s) (Where s)
+      → IsReaderIf (λ ts. Fits left s) (Many Step s) (ManyBefore StepIn Over left s) (Where s)
       (many_within left step over_read s)
   many_by zero s = reads_zero s
   many_by (suc left) s = reads_more left (many_by left) s
 
 -- where each refusal's place is at its token
+pub reads_fitting : {S : Type 0} (Step : S → Grammar (S × Bool))
+    (StepIn : S → GrammarBefore (S × Bool))
+    (Over : S → GrammarBefore S) (step : S → Reads (S × Bool)) (over_read : S → Reads S)
+    (Room : S → Type 0) (Fits : ℕ → S → Type 0)
+    → ((s : S) → IsReaderIf (λ ts. Room s) (Step s) (StepIn s) AtToken (step s))
+    → ((s : S) → IsReader (Many Step s) (Over s) AtToken (over_read s))
+    → ((s : S) → Begins (Many Step s) []) → StepsOn StepIn step over_read
+    → ((left : ℕ) (s : S) → Fits (suc left) s → Room s)
+    → ((left : ℕ) (s s2 : S) (ks : List TokenKind) (h : Option TokenKind)
+    → StepIn s (s2, true) ks h → Fits (suc left) s → Fits left s2)
+    → (left : ℕ) (s : S)
+    → IsReaderIf (λ ts. Fits left s) (Many Step s) (ManyBefore StepIn Over left s) AtToken
+    (many_within left step over_read s)
+reads_fitting Step StepIn Over step over_read Room Fits steps overs some steps_on room kept =
+    many_by Step StepIn Over step over_read (λ s. AtToken) (λ s. AtToken) Room Fits steps overs
+    some (λ s before t r p. p) (λ s s2 prefix before t r is p. moves prefix before t r p) steps_on
+    room kept
+
+-- and where there is room anyway
 pub reads_many : {S : Type 0} (Step : S → Grammar (S × Bool))
     (StepIn : S → GrammarBefore (S × Bool))
     (Over : S → GrammarBefore S) (step : S → Reads (S × Bool)) (over_read : S → Reads S)
@@ -192,5 +227,5 @@ pub reads_many : {S : Type 0} (Step : S → Grammar (S × Bool))
     → IsReader (Many Step s) (ManyBefore StepIn Over left s) AtToken
     (many_within left step over_read s)
 reads_many Step StepIn Over step over_read steps overs some steps_on =
-    many_by Step StepIn Over step over_read (λ s. AtToken) (λ s. AtToken) steps overs some
-    (λ s before t r p. p) (λ s s2 prefix before t r is p. moves prefix before t r p) steps_on
+    reads_fitting Step StepIn Over step over_read (λ s. Unit {0}) (λ left s. Unit {0}) steps overs
+    some steps_on (λ left s fits. tt) (λ left s s2 ks h is fits. tt)

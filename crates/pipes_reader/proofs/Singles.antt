@@ -18,7 +18,8 @@ use Rattle.pipes_reader.specs.Places.{Refusals, AtToken, there, inside}
 use Rattle.pipes_reader.proofs.Causes.{why_map, Refuses, CauseOf, HasValue, NoValue, LeafWhy}
 use Rattle.pipes_reader.proofs.Causes.{IsSteady, steady_why}
 use Rattle.pipes_reader.proofs.TokenLists.{uncons, none, next-append, next-same}
-use Rattle.pipes_reader.proofs.Readers.{IsReader, RefusedAt, Then, both, ThenBefore, turn, IsFree}
+use Rattle.pipes_reader.proofs.Readers.{IsReader, IsReaderIf, under, RefusedAt, Then, both}
+use Rattle.pipes_reader.proofs.Readers.{ThenBefore, turn, IsFree, turns_room}
 use Rattle.pipes_reader.proofs.Readers.{ReadsSome, turns_if, reworded}
 
 abbrev well : {A : Type 0} → A × List Token → Result (A × List Token) Refusal
@@ -40,7 +41,7 @@ none_by {A} Where x = record {
   wider = λ y ks h is. is;
   alike = λ y ks k j a is. is;
   unended = unended;
-  first = λ ts r h e. absurd (differ ts r e);
+  first = λ ts r h e u. absurd (differ ts r e);
 }
   where
     differ : (ts : List Token) (r : Refusal) → done_with x ts ≡ Err r → ⊥
@@ -92,18 +93,19 @@ pub one_unended : {A : Type 0} (value : TokenKind → Option A) → NotLast valu
     (ks : List TokenKind) → One value x ks → has_last ks ≡ false
 one_unended value last _ _ (one k x is) = ap (λ (b : Bool). b || false) (last k x is)
 
-pub one_by : {A : Type 0} (Where : Refusals) (value : TokenKind → Option A)
+-- the causes are the grammar's where there is room
+pub one_by : {A : Type 0} (Room : Type 0) (Where : Refusals) (value : TokenKind → Option A)
     (refused : TokenKind → ℕ → Refusal) → Begins (One value) [] → NotLast value
-    → Refusing Where value refused → HasCauses value refused
-    → IsReader (One value) (Anywhere (One value)) Where (take_by value refused)
+    → Refusing Where value refused → (Room → HasCauses value refused)
+    → IsReaderIf (λ ts. Room) (One value) (Anywhere (One value)) Where (take_by value refused)
 unfolding take_by
-one_by {A} Where value refused some last placed causes = record {
+one_by {A} Room Where value refused some last placed causes = record {
   found = found;
   only = λ x prefix rest is. only x (kinds_of prefix) is prefix rest refl;
   wider = λ x ks h is. is;
   alike = λ x ks k j a is. is;
   unended = one_unended value last;
-  first = first;
+  first = λ ts r h e room. first room ts r h e;
 }
   where
     found_by : (t : Token) (ts : List Token) (o : Option A) (x : A) (rest : List Token)
@@ -138,11 +140,11 @@ one_by {A} Where value refused some last placed causes = record {
         → Refuses (take_by value refused) (u ∷ other)
     refuses u other e = (refused u.kind u.at, rw e refl)
 
-    first_by : (t : Token) (ts : List Token) (o : Option A) (r : Refusal) → value t.kind ≡ o
-        → taken_or o (refused t.kind t.at) ts ≡ Err r
+    first_by : Room → (t : Token) (ts : List Token) (o : Option A) (r : Refusal)
+        → value t.kind ≡ o → taken_or o (refused t.kind t.at) ts ≡ Err r
         → RefusedAt (One value) Where (take_by value refused) (t ∷ ts) r
-    first_by t ts (Some y) r is e = absurd cc
-    first_by t ts None r is e =
+    first_by room t ts (Some y) r is e = absurd cc
+    first_by room t ts None r is e =
         let same : refused t.kind t.at ≡ r = cc in
         record {
           before = [];
@@ -156,14 +158,15 @@ one_by {A} Where value refused some last placed causes = record {
               z.why)
               same
               (why_map _ _ _ _ _ _ begun (λ no. absurd no) t.kind (refused t.kind t.at).why
-              (λ j a e u other f. refuses u other (ap value f ∙ e)) (causes t.kind t.at is));
+              (λ j a e u other f. refuses u other (ap value f ∙ e))
+              (causes room t.kind t.at is));
         }
 
-    first : (ts : List Token) (r : Refusal) → has_last (kinds_of ts) ≡ true
+    first : Room → (ts : List Token) (r : Refusal) → has_last (kinds_of ts) ≡ true
         → take_by value refused ts ≡ Err r
         → RefusedAt (One value) Where (take_by value refused) ts r
-    first [] r h e = absurd cc
-    first (t ∷ ts) r h e = first_by t ts (value t.kind) r refl e
+    first room [] r h e = absurd cc
+    first room (t ∷ ts) r h e = first_by room t ts (value t.kind) r refl e
 
 -- a token without a value is refused at its place, or inside it
 abbrev pub Placed : {A : Type 0} → (TokenKind → Option A) → (TokenKind → ℕ → Refusal) → Type 0
@@ -174,12 +177,19 @@ pub placed_at : (t : Token) (r : Refusal) → (r.at ≡ t.at) ⊎ (t.kind ≡ Cu
 placed_at t r (inl h) = there h
 placed_at t r (inr h) = inside h
 
+pub reads_one_if : {A : Type 0} (Room : Type 0) (value : TokenKind → Option A)
+    (refused : TokenKind → ℕ → Refusal) → Begins (One value) [] → NotLast value
+    → Placed value refused → (Room → HasCauses value refused)
+    → IsReaderIf (λ ts. Room) (One value) (Anywhere (One value)) AtToken (take_by value refused)
+reads_one_if Room value refused some last placed causes =
+    one_by Room AtToken value refused some last
+    (λ t is. placed_at t (refused t.kind t.at) (placed t.kind t.at is)) causes
+
 pub reads_one : {A : Type 0} (value : TokenKind → Option A) (refused : TokenKind → ℕ → Refusal)
     → Begins (One value) [] → NotLast value → Placed value refused → HasCauses value refused
     → IsReader (One value) (Anywhere (One value)) AtToken (take_by value refused)
 reads_one value refused some last placed causes =
-    one_by AtToken value refused some last
-    (λ t is. placed_at t (refused t.kind t.at) (placed t.kind t.at is)) causes
+    reads_one_if (Unit {0}) value refused some last placed (λ u. causes)
 
 -- a token that the grammar doesn't allow is refused at its place
 pub refused_place : (k : TokenKind) (at : ℕ) → (refused_by k at).at ≡ at
@@ -209,9 +219,9 @@ pub data MappedBefore {A B : Type 0} (f : A → B) (In : GrammarBefore A)
       → MappedBefore f In (f x) ks h
 
 module _ {A B : Type 0} (f : A → B) (Is : Grammar A) (In : GrammarBefore A) (Where : Refusals)
-    (read : Reads A)
-    (reads : IsReader Is In Where read)
-    (turned : IsReader (Then Is (λ x. Pure (f x)))
+    (read : Reads A) {Holds : List Token → Type 0}
+    (reads : IsReaderIf Holds Is In Where read)
+    (turned : IsReaderIf Holds (Then Is (λ x. Pure (f x)))
     (ThenBefore In (λ x. Anywhere (Pure (f x)))) Where
     (in_turn read (λ x. done_with (f x)))) where
   to_by : (x : A) (y : B) (ks ls : List TokenKind) → Is x ks → Pure (f x) y ls
@@ -242,7 +252,7 @@ module _ {A B : Type 0} (f : A → B) (Is : Grammar A) (In : GrammarBefore A) (W
       (append-nil ks)
       (turn x (f x) ks [] h is pure)
 
-  pub mapped_by : IsReader (Mapped f Is) (MappedBefore f In) Where
+  pub mapped_by : IsReaderIf Holds (Mapped f Is) (MappedBefore f In) Where
       (in_turn read (λ x. done_with (f x)))
   mapped_by =
       reworded (Then Is (λ x. Pure (f x))) (Mapped f Is)
@@ -250,9 +260,10 @@ module _ {A B : Type 0} (f : A → B) (Is : Grammar A) (In : GrammarBefore A) (W
       (MappedBefore f In) Where (in_turn read (λ x. done_with (f x))) turned to unended within back
 
 pub reads_mapped : {A B : Type 0} (f : A → B) (Is : Grammar A) (In : GrammarBefore A)
-    (read : Reads A)
-    → IsReader Is In AtToken read
-    → IsReader (Mapped f Is) (MappedBefore f In) AtToken (in_turn read (λ x. done_with (f x)))
+    (read : Reads A) {Room : Type 0}
+    → IsReaderIf (λ ts. Room) Is In AtToken read
+    → IsReaderIf (λ ts. Room) (Mapped f Is) (MappedBefore f In) AtToken
+    (in_turn read (λ x. done_with (f x)))
 reads_mapped f Is In read reads =
     mapped_by f Is In AtToken read reads
     (turns_if Is In (λ x. Pure (f x)) (λ x. Anywhere (Pure (f x))) read (λ x. done_with (f x))
@@ -287,7 +298,7 @@ optional_by {A} Where value last steady = record {
   wider = wider;
   alike = λ x ks k j a is. alike x ks (Some k) is k j a refl;
   unended = unended;
-  first = λ ts r h e. absurd (never ts r e);
+  first = λ ts r h e u. absurd (never ts r e);
 }
   where
     nothing_by : (ts : List Token) (x : Option A) (rest : List Token) → NotNext value (next_of ts)
@@ -375,12 +386,13 @@ TailBefore Tail v None = Anywhere (Pure v)
 
 module _ {A B : Type 0} (value : TokenKind → Option A) (Tail : A → Grammar B)
     (In : A → GrammarBefore B)
-    (tail : A → Reads B) (v : B) (last : NotLast value) (steady : IsSteady value)
-    (reads : (x : A) → IsReader (Tail x) (In x) AtToken (tail x))
+    (tail : A → Reads B) (v : B) {Room : Type 0} (last : NotLast value) (steady : IsSteady value)
+    (reads : (x : A) → IsReaderIf (λ ts. Room) (Tail x) (In x) AtToken (tail x))
     (some : (x : A) → Begins (Tail x) []) where
-  two : (o : Option A) → IsReader (TailIs Tail v o) (TailBefore In v o) AtToken (tail_of tail v o)
+  two : (o : Option A)
+      → IsReaderIf (λ ts. Room) (TailIs Tail v o) (TailBefore In v o) AtToken (tail_of tail v o)
   two (Some x) = reads x
-  two None = reads_none v
+  two None = under (λ ts room. tt) (reads_none v)
 
   some_tail : (o : Option A) → Begins (TailIs Tail v o) []
   some_tail (Some x) = some x
@@ -392,11 +404,12 @@ module _ {A B : Type 0} (value : TokenKind → Option A) (Tail : A → Grammar B
   goes_on _ _ _ (given_before k x h is) = inl (λ j. given_before k x j is)
   goes_on _ _ _ (absent_before h is) = inr ([], v, [], refl)
 
-  pub reads_tail : IsReader (Then (Optional value) (TailIs Tail v))
+  pub reads_tail : IsReaderIf (λ ts. Room) (Then (Optional value) (TailIs Tail v))
       (ThenBefore (OptionalBefore value) (TailBefore In v)) AtToken (with_tail value tail v)
   reads_tail =
-      turns_if (Optional value) (OptionalBefore value) (TailIs Tail v) (TailBefore In v)
-      (optional value) (tail_of tail v) (optional_by AtToken value last steady) (λ o ks is. two o)
+      turns_room Room (Optional value) (OptionalBefore value) (TailIs Tail v) (TailBefore In v)
+      (optional value) (tail_of tail v)
+      (under (λ ts room. tt) (optional_by AtToken value last steady)) (λ o ks is. two o)
       (λ o ks is. some_tail o) goes_on
 
 -- ---- a reader that no token of a value may come first of
@@ -407,7 +420,8 @@ Guarded value In x ks h = In x ks h × NotNext value (ahead ks h)
 
 module _ {A B : Type 0} (Is : Grammar B) (In : GrammarBefore B) (Where : Refusals)
     (value : TokenKind → Option A) (refused : TokenKind → ℕ → Refusal) (next : Reads B)
-    (reads : IsReader Is In Where next) (steady : IsSteady value) (some : Begins Is [])
+    {Holds : List Token → Type 0} (reads : IsReaderIf Holds Is In Where next)
+    (steady : IsSteady value) (some : Begins Is [])
     (placed : (t : Token) (x : A) → value t.kind ≡ Some x → Where [] t (refused t.kind t.at))
     (limits : (k : TokenKind) (at : ℕ) (x : A) → value k ≡ Some x
     → IsLimit (refused k at).why × Begins Is (k ∷ [])) where
@@ -491,15 +505,17 @@ module _ {A B : Type 0} (Is : Grammar B) (In : GrammarBefore B) (Where : Refusal
           ∙ next-same s.before s.refused s.after other) is
 
   guarded_first : (ts : List Token) (r : Refusal) → has_last (kinds_of ts) ≡ true
-      → guarded ts ≡ Err r → RefusedAt Is Where guarded ts r
-  guarded_first [] r h e = absurd (no h)
+      → guarded ts ≡ Err r → Holds ts → RefusedAt Is Where guarded ts r
+  guarded_first [] r h e holds = absurd (no h)
     where
       no : false ≡ true → ⊥
       no f = cc
-  guarded_first (t ∷ ts) r h e = by (value t.kind) refl
+  guarded_first (t ∷ ts) r h e holds = by (value t.kind) refl
     where
       by : (o : Option A) → value t.kind ≡ o → RefusedAt Is Where guarded (t ∷ ts) r
-      by None is = first_free (t ∷ ts) r is (reads.first (t ∷ ts) r h (sym (free (t ∷ ts) is) ∙ e))
+      by None is =
+          first_free (t ∷ ts) r is
+          (reads.first (t ∷ ts) r h (sym (free (t ∷ ts) is) ∙ e) holds)
       by (Some x) is =
           let same : refused t.kind t.at ≡ r = refused_is (sym (bars t ts x is) ∙ e) in
           let l = limits t.kind t.at x is in
@@ -521,7 +537,7 @@ module _ {A B : Type 0} (Is : Grammar B) (In : GrammarBefore B) (Where : Refusal
           refused_is : {y z : Refusal} → refusing y ≡ refusing z → y ≡ z
           refused_is f = cc
 
-  pub guarded_by : IsReader Is (Guarded value In) Where guarded
+  pub guarded_by : IsReaderIf Holds Is (Guarded value In) Where guarded
   guarded_by = record {
     found = guarded_found;
     only = guarded_only;
@@ -554,7 +570,7 @@ reads_never {A} Is some ended refused placed causes read at_end refuses = record
   wider = λ x ks h is. absurd is;
   alike = λ x ks k j a is. absurd is;
   unended = ended;
-  first = first;
+  first = λ ts r h e u. first ts r h e;
 }
   where
     differ : (r : Refusal) (x : A) (rest : List Token) → failed {A = A} r ≡ well (x, rest) → ⊥

@@ -1,5 +1,6 @@
 -- The readers of numbers, strings and names.
-use Rattle.std.proofs.Common.{◌≡◌, ℕ, ◌≤◌, Bool, true, false, cond, nat_le, ◌&&◌, List, [], ◌∷◌}
+use Rattle.std.proofs.Common.{◌≡◌, ℕ, ◌<◌, ◌≤◌, length, Bool, true, false, cond, nat_le, ◌&&◌, List}
+use Rattle.std.proofs.Common.{[], ◌∷◌}
 use Rattle.std.proofs.Common.{Option, Some, None, refl, sym, ap, ◌∙◌, ◌⊎◌, inl, inr, arith}
 use Rattle.std.proofs.lemmas.Bool.{le-leb, leb-true}
 use Rattle.pipes_token.specs.declared.refusal.Refusal.{Refusal}
@@ -19,8 +20,10 @@ use Rattle.pipes_reader.specs.Taking.{take_name}
 use Rattle.pipes_reader.proofs.Causes.{HasValue, NoValue, LeafWhy, IsSteady, steady_by, plain_why}
 use Rattle.pipes_reader.proofs.Causes.{steady_why}
 use Rattle.pipes_reader.proofs.Fresh.{fresh}
-use Rattle.pipes_reader.proofs.Readers.{IsReader}
+use Rattle.pipes_reader.proofs.ShortNames.{short_name}
+use Rattle.pipes_reader.proofs.Readers.{IsReader, IsReaderIf}
 use Rattle.pipes_reader.proofs.Singles.{One, one, NotLast, Placed, HasCauses, reads_one}
+use Rattle.pipes_reader.proofs.Singles.{reads_one_if}
 use Rattle.pipes_reader.proofs.Singles.{refused_place}
 
 -- ---- numbers
@@ -208,27 +211,25 @@ module _ (word : TokenKind → Option (List ℕ)) (names : List (List ℕ))
               (named w) h),
         )
 
-    name_causes : HasCauses (name_value word names) (λ k at. name_refused (word k) k at)
-    name_causes k at is = by (word k) refl
+    name_causes : length names < 64
+        → HasCauses (name_value word names) (λ k at. name_refused (word k) k at)
+    name_causes room k at is = by (word k) refl
       where
         by : (o : Option (List ℕ)) → word k ≡ o
             → LeafWhy (name_value word names) k (name_refused o k at).why
         by (Some w) e =
-            let f = fresh names in
-            other_word k f.0 (words k w e) (
-              f.0,
-              name_new names (word (Name f.0)) f.0
-                  (named f.0) f.1,
-            )
+            let f = short_name names room in
+            other_word k f.name (words k w e) f.named
+            (f.name, name_new names (word (Name f.name)) f.name (named f.name) f.new)
         by None e =
             plain_why (HasValue (name_value word names)) ⊥ (NoValue (name_value word names)) k at
             (λ j a. ap (λ (o : Option (List ℕ)). unless_taken names o) (steady k j a e))
 
-    pub reads_name : IsReader (One (name_value word names))
+    pub reads_name : IsReaderIf (λ ts. length names < 64) (One (name_value word names))
         (Anywhere (One (name_value word names))) AtToken
         (take_name word names)
     unfolding take_name
     reads_name =
-        reads_one (name_value word names) (λ k at. name_refused (word k) k at) some_name
-        name_not_last
+        reads_one_if (length names < 64) (name_value word names)
+        (λ k at. name_refused (word k) k at) some_name name_not_last
         (name_placed word names) name_causes

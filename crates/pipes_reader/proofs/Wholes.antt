@@ -27,7 +27,7 @@ use Rattle.pipes_reader.specs.Texts as texts
 use Rattle.pipes_reader.proofs.TokenLists.{kinds-append, tokens_of, kinds-tokens, split, uncons}
 use Rattle.pipes_reader.proofs.TokenLists.{none, last_after}
 use Rattle.pipes_reader.proofs.Causes.{why_map, Refuses, CauseOf, plain_why}
-use Rattle.pipes_reader.proofs.Readers.{IsReader, RefusedAt, first_place}
+use Rattle.pipes_reader.proofs.Readers.{IsReaderIf, RefusedAt, first_place}
 use Rattle.pipes_reader.proofs.Singles.{refused_place}
 
 -- ---- the last token
@@ -137,7 +137,7 @@ end_is x y [] e = absurd cc
 end_is x y (t ∷ ts) e = end_by x y t ts t.kind refl e
 
 module _ {A : Type 0} (Is Within : Grammar A) (In : GrammarBefore A) (Where WholeWhere : Refusals)
-    (read : Reads A) (reads : IsReader Is In Where read)
+    (read : Reads A) {Holds : List Token → Type 0} (reads : IsReaderIf Holds Is In Where read)
     (within : (x : A) (ks : List TokenKind) (h : Option TokenKind) → In x ks h → Within x ks)
     (closed : (x : A) (ks : List TokenKind) → Within x ks → In x ks (Some End)) where
   found_by : (ts : List Token) (x : A) (q : Result (A × List Token) Refusal) → read ts ≡ q
@@ -254,7 +254,8 @@ module _ {A : Type 0} (Is Within : Grammar A) (In : GrammarBefore A) (Where Whol
   module _ (place : (before : List Token) (t : Token) (r : Refusal) → Where before t r
       → WholeWhere before t r)
       (place_end : (before : List Token) (t : Token) (r : Refusal) → AtToken before t r
-      → WholeWhere before t r) where
+      → WholeWhere before t r)
+      (holds : (n : ℕ) (bs : List ℕ) (ts : List Token) → Tokens n bs ts → Holds ts) where
     at_place : (ts : List Token) (r : Refusal) → RefusedAt Is Where read ts r
         → RefusedAt (Whole Is) WholeWhere (whole read) ts r
     at_place ts r s = record {
@@ -331,9 +332,9 @@ module _ {A : Type 0} (Is Within : Grammar A) (In : GrammarBefore A) (Where Whol
 
     first_by : (ts : List Token) (r : Refusal) (q : Result (A × List Token) Refusal)
         → has_last (kinds_of ts) ≡ true → read ts ≡ q → (q >>= λ y. then_end y.0 y.1) ≡ Err r
-        → RefusedAt (Whole Is) WholeWhere (whole read) ts r
-    first_by ts r (Err d) h is e = at_place ts r (reads.first ts r h (is ∙ cc))
-    first_by ts r (Ok (x, us)) h is e =
+        → Holds ts → RefusedAt (Whole Is) WholeWhere (whole read) ts r
+    first_by ts r (Err d) h is e hold = at_place ts r (reads.first ts r h (is ∙ cc) hold)
+    first_by ts r (Ok (x, us)) h is e hold =
         let f = reads.found ts x us is in
         let wide = reads.wider x (kinds_of f.0) (next_of us) f.1 in
         let left = last_after f.0 us ts (reads.unended x (kinds_of f.0) wide) f.2 h in
@@ -347,7 +348,8 @@ module _ {A : Type 0} (Is Within : Grammar A) (In : GrammarBefore A) (Where Whol
         texts.tokens ts r short are
         (first_place (Whole Within) (whole read) barred (Whole Is) WholeWhere WholeWhere
         (λ before t r p. p) ts r
-        (first_by ts r (read ts) (text_ends (length bytes) bytes ts are) refl e))
+        (first_by ts r (read ts) (text_ends (length bytes) bytes ts are) refl e
+        (holds (length bytes) bytes ts are)))
 
     pub text_refused : (bytes : List ℕ) (r : TextRefusal) → IsRefusedBy read bytes r
         → IsRefused Is Within WholeWhere read bytes r

@@ -7,6 +7,7 @@ use Rattle.pipes_token.specs.declared.token.TokenKind.{TokenKind}
 use Rattle.pipes_token.specs.declared.token.TokenKind.TheVariants.{Keyword, Name, Number, Text}
 use Rattle.pipes_token.specs.declared.token.TokenKind.TheVariants.{Long, Cut, Byte, End}
 use Rattle.pipes_reader.specs.Sentences.{Grammar, Begins}
+use Rattle.pipes_reader.specs.Names.{IsSourceName}
 
 -- numbers are alike, and so are words that are no keywords
 pub data AreAlike : TokenKind → TokenKind → Type 0 where
@@ -47,8 +48,8 @@ pub data IsTextWhy (GoesOn : TokenKind → Type 0) (IsFull : Type 0) (IsStuck : 
   -- a number, where another number goes on
   other_number : (n m : ℕ) → GoesOn (Number m) → IsTextWhy GoesOn IsFull IsStuck
       (Number n) why.Range
-  -- a word, where another word goes on
-  other_word : (k : TokenKind) (w : List ℕ) → IsWord k → GoesOn (Name w)
+  -- a word, where another word goes on, one that texts have as a name
+  other_word : (k : TokenKind) (w : List ℕ) → IsWord k → IsSourceName w → GoesOn (Name w)
       → IsTextWhy GoesOn IsFull IsStuck k why.Name
   -- without the limits it goes on with this token, or with them nothing goes on
   over_limit : (k : TokenKind) (w : TextWhy) → IsLimit w → GoesOn k ⊎ IsFull

@@ -1,8 +1,9 @@
 // The aggregates of a group's rows.
-ghost use Rattle.std.specs.Prelude.{◌≡◌, IfOk, length, pos};
+ghost use Rattle.std.specs.Prelude.{◌≡◌, IfOk, FitsSigned, length, pos};
 ghost use Rattle.std.specs.Int.{saturate_signed, int_div_euclid, w64};
 ghost use Rattle.pipes_expr.specs.ExprValue.{column as value_at};
-ghost use Rattle.pipes_relation.specs.Aggregate.{number, exact_sum, FitsRows, least_value, greatest_value};
+ghost use Rattle.pipes_relation.specs.Aggregate.{number, exact_sum, FitsRows};
+ghost use Rattle.pipes_relation.specs.Aggregate.{least_value, greatest_value};
 ghost use Rattle.pipes_relation.specs.Aggregate.{values_at, smaller, greater, aggregate};
 ghost use Rattle.pipes_expr.specs.Seen.{value_seen};
 
@@ -11,9 +12,10 @@ use pipes_expr::Seen;
 use pipes_time::Memory;
 use pipes_tuple::{Tuple, Value};
 
-// The integer in the column.
-fn int_at(row: &Tuple, column: u32) -> i64
-    ensures { result ≡ number (value_at row.now column) }
+/// The integer in the column; 0 where the column has none.
+pub fn int_at(row: &Tuple, column: u32) -> i64
+    ensures value { result ≡ number (value_at row.now column) }
+    ensures fits { FitsSigned w64 (number (value_at row.now column)) }
 {
     match Seen::at(row.as_slice(), column as usize) {
         Seen::Int(number) => number,
@@ -78,8 +80,8 @@ fn greatest_value(rows: &[Tuple], column: u32) -> Seen<'_>
     }
 }
 
-// An exact sum, clamped to 64 bits.
-fn clamped(sum: i128) -> i64
+/// An exact sum, clamped to 64 bits.
+pub fn clamped(sum: i128) -> i64
     ensures { result ≡ saturate_signed w64 sum }
 {
     sum.clamp(i128::from(i64::MIN), i128::from(i64::MAX)) as i64

@@ -10,6 +10,7 @@ mod lists;
 mod rows;
 mod table;
 
+pub use aggregate::{clamped, int_at};
 pub use difference::minus;
 pub use group::grouped;
 pub use join::joined;

@@ -3,6 +3,7 @@ use Rattle.std.proofs.Common.{◌≡◌, ◌⊎◌, ℕ, zero, suc, List, [], �
 use Rattle.std.proofs.Common.{Option, Some, None, slice_get, unwrap_or, rules, refl, sym, ap, ◌∙◌}
 use Rattle.std.proofs.Common.{inl, inr}
 use Rattle.std.specs.List.{filter}
+use Rattle.pipes_plan.proofs.PlanTyped.{flag_is}
 use Rattle.pipes_tuple.specs.declared.value.Kind.{Kind}
 use Rattle.pipes_tuple.specs.declared.value.Kind.TheVariants as kind
 use Rattle.pipes_relation.specs.declared.lists.Pair.{Pair}
@@ -98,12 +99,6 @@ chain_kinds plan s t chain = induct_chain (λ plan. (t : List Kind)
         let child = then_is (filter_kinds p) (plan_kinds a (s ∷ [])) t
         (sym (kinds-Filter p a (s ∷ [])) ∙ h) in
         sym (only_if_is (is_flag (expr_kind p child.0)) child.0 t child.2).1 ∙ more child.0 child.1
-
-flag_is : (o : Option Kind) → is_flag o ≡ true → o ≡ Some kind.Flag
-flag_is (Some kind.Flag) h = refl
-flag_is (Some kind.Int) h = cc
-flag_is (Some kind.Text) h = cc
-flag_is None h = cc
 
 -- what stands under a filter, and its condition
 pub record IsFilterOver (p : Expr) (a : Plan) (s : List Kind) : Type 0 where

@@ -2,3 +2,4 @@ pub mod Snapshot
 pub mod Progress
 pub mod Lists
 pub mod Lawful
+pub mod Weights

@@ -49,7 +49,7 @@ then-eq Greater p = refl
 end-test : (a n b m : ℕ) → is_eq (end_cmp (a, n) (b, m)) ≡ (is_number a b && is_number n m)
 end-test a n b m = then-eq (nat_cmp a b) (nat_cmp n m)
 
-then-gt : (o p : Ordering) → is_gt (ordering_then o p) ≡ false → is_gt o ≡ false
+pub then-gt : (o p : Ordering) → is_gt (ordering_then o p) ≡ false → is_gt o ≡ false
 then-gt Less p h = refl
 then-gt Equal p h = refl
 then-gt Greater p h = h

@@ -15,6 +15,7 @@ use Rattle.pipes_stream.specs.declared.Elem.{Elem}
 use Rattle.pipes_stream.specs.Lawful.{open_count}
 use Rattle.pipes_sweep.specs.Numbers.{Numbered}
 use Rattle.std.specs.Map.{values_of}
+use Rattle.pipes_tuple.proofs.Perm.{length-Perm}
 use Rattle.pipes_sweep.specs.Areas.{KeptByKey, AreaHolds, has_key, elems_with_key, until}
 use Rattle.pipes_sweep.specs.Areas.{ended_count}
 
@@ -79,13 +80,6 @@ until-count t (e ∷ es) =
 
 pub ended-Perm : (t : ℕ) {xs ys : List Elem} → Perm xs ys → ended_count t xs ≡ ended_count t ys
 ended-Perm t p = count_by-Perm (λ (e : Elem). nat_le e.span.end t) p
-
--- lists that are equal up to order are equally long
-pub length-Perm : {X : Type 0} {xs ys : List X} → Perm xs ys → length xs ≡ length ys
-length-Perm none = refl
-length-Perm (keep x p) = ap suc (length-Perm p)
-length-Perm (swap x y xs) = refl
-length-Perm (then p q) = length-Perm p ∙ length-Perm q
 
 open-pick : (c : Bool) (e : Elem) (es : List Elem) (d n : ℕ) → cond c 1 0 ≤ d → length es ≤ n
     → length (cond c (e ∷ es) es) ≤ d + n

@@ -13,6 +13,6 @@ mod store;
 pub use area::Area;
 pub use hold::Hold;
 pub use key_elems::KeyElems;
-pub use sending::send_due;
+pub use sending::{append_progress, send_due};
 pub use steps::Steps;
 pub use store::Store;

@@ -21,9 +21,14 @@ fn append_elems(elems: Vec<Elem>, out: &mut Vec<Message>) -> Result<(), Memory>
     Ok(())
 }
 
-// Appends how far the list has come, where its elements don't show it. Out of memory nothing is
-// appended.
-fn append_progress(known: u64, now: u64, ended: bool, out: &mut Vec<Message>) -> Result<(), Memory>
+/// Appends how far the list has come, where its elements don't show it: `End` where it has ended,
+/// and else a `Beat` where the heartbeat `now` is above `known`. Out of memory nothing is appended.
+pub fn append_progress(
+    known: u64,
+    now: u64,
+    ended: bool,
+    out: &mut Vec<Message>,
+) -> Result<(), Memory>
     ensures appended { OnOk result (out.new.items ≡ out.old.items
         ++ progress_after known now ended) }
     ensures refused { OnErr result (out.new.items ≡ out.old.items) }

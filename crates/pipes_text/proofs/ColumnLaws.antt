@@ -1,7 +1,8 @@
 -- What is read as columns is in the grammar, and what is in the grammar is read.
-use Rattle.std.proofs.Common.{◌≡◌, ℕ, zero, suc, ◌≤◌, Bool, true, false, List, [], ◌∷◌, ◌++◌}
+use Rattle.std.proofs.Common.{◌≡◌, ℕ, zero, suc, ◌+◌, ◌<◌, ◌≤◌, Bool, true, false, List, [], ◌∷◌}
+use Rattle.std.proofs.Common.{◌++◌}
 use Rattle.std.proofs.Common.{length, Option, Some, None, Ok, refl, sym, ap, subst, ◌∙◌}
-use Rattle.std.proofs.Common.{append_assoc, inl, arith}
+use Rattle.std.proofs.Common.{append_assoc, inl, arith, length-append}
 use Rattle.std.proofs.lemmas.List.{append-nil}
 use Rattle.pipes_token.specs.declared.token.Sign.TheVariants.{Close, Comma}
 use Rattle.pipes_token.specs.declared.keyword.Keyword.TheVariants as keyword
@@ -17,10 +18,11 @@ use Rattle.pipes_reader.specs.Sentences.{Grammar, GrammarBefore, Anywhere, Begin
 use Rattle.pipes_reader.specs.Places.{AtToken}
 use Rattle.pipes_reader.specs.Taking.{take_name}
 use Rattle.pipes_reader.proofs.Fresh.{fresh}
-use Rattle.pipes_reader.proofs.Readers.{IsReader, Then, both, ThenBefore, turn, turns, reworded}
+use Rattle.pipes_reader.proofs.Readers.{IsReader, IsReaderIf, under, Then, both, ThenBefore}
+use Rattle.pipes_reader.proofs.Readers.{turn, turns, reworded}
 use Rattle.pipes_reader.proofs.TokenLists.{both_unended}
 use Rattle.pipes_reader.proofs.Repeats.{Many, last_step, more_steps, ManyBefore, over, last_before}
-use Rattle.pipes_reader.proofs.Repeats.{more_before, many_unended, reads_many}
+use Rattle.pipes_reader.proofs.Repeats.{more_before, many_unended, reads_fitting}
 use Rattle.pipes_reader.proofs.Singles.{One, one, Mapped, mapped, MappedBefore, mapped_before}
 use Rattle.pipes_reader.proofs.Singles.{reads_mapped, Nothing, reads_too_many}
 use Rattle.pipes_reader.proofs.Values.{name_value, name_is, name_new, reads_name}
@@ -83,7 +85,8 @@ reads_sort columns name =
     (λ sort ks is. some_comma columns name sort)
 
 reads_column : (columns : Columns)
-    → IsReader (ColumnIs columns) (ColumnIn columns) AtToken (read_column columns)
+    → IsReaderIf (λ ts. length columns.0 < 64) (ColumnIs columns) (ColumnIn columns) AtToken
+    (read_column columns)
 unfolding read_column
 reads_column columns =
     turns (One (name_value word_of columns.0)) (One (name_value word_of columns.0))
@@ -337,6 +340,21 @@ more_unended columns all ks m =
 abbrev pub no_columns : Columns
 no_columns = ([], [])
 
+-- with so many columns left, another name is left too
+abbrev Fits : ℕ → Columns → Type 0
+Fits left columns = length columns.0 + left < 64
+
+one_fits : (left : ℕ) (columns c2 : Columns) (ks : List TokenKind) (h : Option TokenKind)
+    → ColumnIn columns (c2, true) ks h → Fits (suc left) columns → Fits left c2
+one_fits left columns c2 ks h is fits =
+    let s = step_in columns (c2, true) ks h is in
+    omega (
+      arith,
+      fits,
+      ap (λ (p : Columns × Bool). length p.0.0) s.value,
+      length-append columns.0 (s.name ∷ []),
+    )
+
 pub reads_columns : IsReader (More any no_columns)
     (Anywhere (More (at_most 32) no_columns)) AtToken read_columns
 unfolding read_columns
@@ -344,11 +362,14 @@ reads_columns =
     reworded (Many ColumnIs no_columns) (More any no_columns)
     (ManyBefore ColumnIn (λ c. Nothing) 32 no_columns)
     (Anywhere (More (at_most 32) no_columns)) AtToken read_columns
-    (reads_many ColumnIs ColumnIn (λ c. Nothing) read_column one_too_many reads_column
+    (under (λ ts u. omega arith)
+    (reads_fitting ColumnIs ColumnIn (λ c. Nothing) read_column one_too_many
+    (λ c. length c.0 < 64) Fits reads_column
     (λ c. reads_too_many (Many ColumnIs c) (some_more c)
     (many_unended ColumnIs (λ d o ks is. (reads_column d).unended o ks is) c) (one_too_many c)
     (λ ts. refl))
-    some_more (λ left c c2 ks h is. inl (λ j. free_step c (c2, true) ks h j is)) 32 no_columns)
+    some_more (λ left c c2 ks h is. inl (λ j. free_step c (c2, true) ks h j is))
+    (λ left c fits. omega (arith, fits)) one_fits 32 no_columns))
     (gathered no_columns) (more_unended no_columns) (within 32 no_columns)
     (λ all ks h m. subst
     (λ (z : List TokenKind). ManyBefore ColumnIn (λ c. Nothing) 32 no_columns all z h)

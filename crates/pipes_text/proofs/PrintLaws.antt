@@ -109,7 +109,7 @@ abbrev free : List ℕ → Type 0
 free bs = Unit {0}
 
 -- a keyword and a space
-word_then : (k : AKeyword) → WritesFreely (Keyword k ∷ []) (keyword_text k ++ (32 ∷ []))
+pub word_then : (k : AKeyword) → WritesFreely (Keyword k ∷ []) (keyword_text k ++ (32 ∷ []))
 word_then k = write_space_after (Keyword k ∷ []) (keyword_text k) (write_keyword k)
 
 -- ---- columns

@@ -1,7 +1,7 @@
 -- What is read as a query is in the grammar, and what is in the grammar is read.
 use Rattle.std.proofs.Common.{◌≡◌, ℕ, zero, suc, ◌+◌, ◌<◌, ◌≤◌, Bool, true, false, List, [], ◌∷◌}
 use Rattle.std.proofs.Common.{◌++◌, length, map, Option, Some, None, Result, Ok, Err, refl, sym, ap}
-use Rattle.std.proofs.Common.{subst, ◌∙◌, append_assoc, ◌⊎◌, inr, arith}
+use Rattle.std.proofs.Common.{subst, ◌∙◌, append_assoc, ◌⊎◌, inl, inr, arith, length-append}
 use Rattle.std.proofs.lemmas.List.{append-nil, map-append}
 use Rattle.pipes_token.specs.declared.keyword.Keyword.TheVariants as keyword
 use Rattle.pipes_token.specs.declared.token.TokenKind.{TokenKind}
@@ -17,10 +17,10 @@ use Rattle.pipes_reader.specs.Sentences.{Grammar, GrammarBefore, Anywhere, Begin
 use Rattle.pipes_reader.specs.Places.{AtToken, there}
 use Rattle.pipes_reader.proofs.Causes.{plain_why}
 use Rattle.pipes_reader.proofs.TokenLists.{both_unended}
-use Rattle.pipes_reader.proofs.Readers.{IsReader, Then, both, ThenBefore, turn, IsFree}
-use Rattle.pipes_reader.proofs.Readers.{ReadsSome, turns, reworded}
+use Rattle.pipes_reader.proofs.Readers.{IsReader, IsReaderIf, under, Then, both, ThenBefore}
+use Rattle.pipes_reader.proofs.Readers.{turn, IsFree, ReadsSome, turns_room, reworded}
 use Rattle.pipes_reader.proofs.Repeats.{Many, last_step, more_steps, ManyBefore, over, last_before}
-use Rattle.pipes_reader.proofs.Repeats.{more_before, many_unended, StepsOn, reads_many}
+use Rattle.pipes_reader.proofs.Repeats.{more_before, many_unended, StepsOn, reads_fitting}
 use Rattle.pipes_reader.proofs.Singles.{Pure, pure, reads_none, One, one, Mapped, mapped}
 use Rattle.pipes_reader.proofs.Singles.{MappedBefore, mapped_before, reads_mapped, Nothing}
 use Rattle.pipes_reader.proofs.Singles.{NotNext, Guarded, guarded_by, reads_never, refused_place}
@@ -62,13 +62,18 @@ StepIs sources = Then (One (next_of sources)) (NextIs sources)
 abbrev StepIn : List SourceDecl → GrammarBefore (List SourceDecl × Bool)
 StepIn sources = ThenBefore (Anywhere (One (next_of sources))) (NextIn sources)
 
+-- another name is left
+abbrev HasRoom : List SourceDecl → Type 0
+HasRoom sources = length (names_of sources) < 64
+
 reads_next_by : (sources : List SourceDecl) (goes : Bool)
-    → IsReader (NextIs sources goes) (NextIn sources goes) AtToken (source_if goes sources)
+    → IsReaderIf (λ ts. HasRoom sources) (NextIs sources goes) (NextIn sources goes) AtToken
+    (source_if goes sources)
 reads_next_by sources true =
     reads_mapped (with_source sources) (IsNewSource any (names_of sources))
     (SourceIn (names_of sources))
     (read_source (names_of sources)) (reads_source (names_of sources))
-reads_next_by sources false = reads_none (ended_with sources)
+reads_next_by sources false = under (λ ts room. tt) (reads_none (ended_with sources))
 
 some_next : (sources : List SourceDecl) (goes : Bool) → Begins (NextIs sources goes) []
 some_next sources true =
@@ -76,13 +81,15 @@ some_next sources true =
 some_next sources false = (ended_with sources, [], pure)
 
 reads_step : (sources : List SourceDecl)
-    → IsReader (StepIs sources) (StepIn sources) AtToken (next_source sources)
+    → IsReaderIf (λ ts. HasRoom sources) (StepIs sources) (StepIn sources) AtToken
+    (next_source sources)
 unfolding next_source
 reads_step sources =
-    turns (One (next_of sources)) (One (next_of sources)) (NextIs sources)
-    (NextIn sources)
-    (read_next (are_some sources)) (λ goes. source_if goes sources) (reads_next (are_some sources))
+    turns_room (HasRoom sources) (One (next_of sources)) (Anywhere (One (next_of sources)))
+    (NextIs sources) (NextIn sources) (read_next (are_some sources))
+    (λ goes. source_if goes sources) (under (λ ts room. tt) (reads_next (are_some sources)))
     (λ goes ks is. reads_next_by sources goes) (λ goes ks is. some_next sources goes)
+    (λ goes ks h is. inl (λ j. is))
 
 -- after the most sources, where there are some
 abbrev EndIs : List SourceDecl → Grammar (List SourceDecl)
@@ -528,6 +535,29 @@ all_unended limits all ks is =
     ∙ both_unended is.ss (Keyword keyword.Plan ∷ [])
     (further_unended all is.ss (to_further all is.ss is.are).0) refl
 
+-- with so many sources left, another name is left too
+abbrev Fits : ℕ → List SourceDecl → Type 0
+Fits left sources = length (names_of sources) + left < 64
+
+one_fits : (left : ℕ) (sources s2 : List SourceDecl) (ks : List TokenKind) (h : Option TokenKind)
+    → StepIn sources (s2, true) ks h → Fits (suc left) sources → Fits left s2
+one_fits left sources s2 ks h is fits = by (s2, true) ks (step_in sources (s2, true) ks h is) refl
+  where
+    no : false ≡ true → ⊥
+    no e = cc
+
+    by : (o : List SourceDecl × Bool) (ks : List TokenKind) → StepOf (at_most 32) sources o ks
+        → o ≡ (s2, true) → Fits left s2
+    by _ _ (one_more t ss new) e =
+        omega (
+          arith,
+          fits,
+          ap (λ (p : List SourceDecl × Bool). length (names_of p.0)) e,
+          ap (λ (z : List (List ℕ)). length z) (names-append sources t),
+          length-append (names_of sources) (t.name ∷ []),
+        )
+    by _ _ (no_more some) e = absurd (no (ap (λ (p : List SourceDecl × Bool). p.1) e))
+
 pub reads_sources : IsReader (AllSources anything)
     (Anywhere (AllSources (limited 16))) AtToken read_sources
 unfolding read_sources
@@ -535,8 +565,9 @@ reads_sources =
     reworded (Many StepIs []) (AllSources anything) (ManyBefore StepIn EndIn 16 [])
     (Anywhere (AllSources (limited 16)))
     AtToken read_sources
-    (reads_many StepIs StepIn EndIn next_source end_sources reads_step reads_end some_many
-    steps_on 16 [])
+    (under (λ ts u. omega arith)
+    (reads_fitting StepIs StepIn EndIn next_source end_sources HasRoom Fits reads_step reads_end
+    some_many steps_on (λ left s fits. omega (arith, fits)) one_fits 16 []))
     (λ all ks m. all_of anything all ks (gathered [] all ks m)) (all_unended anything)
     (λ all ks h m. all_of (limited 16) all ks (step_within 16 [] all ks h m))
     (λ all ks h is. subst (λ (z : List TokenKind). ManyBefore StepIn EndIn 16 [] all z h)

@@ -15,9 +15,10 @@ use Rattle.pipes_reader.specs.Sentences.{GrammarBefore, ahead, has_last}
 use Rattle.pipes_reader.specs.Places.{AtToken, there}
 use Rattle.pipes_reader.specs.Taking.{string_content}
 use Rattle.pipes_reader.proofs.TokenLists.{both_unended}
-use Rattle.pipes_reader.proofs.Readers.{IsReader, both, turn, reworded}
+use Rattle.pipes_reader.proofs.Readers.{IsReaderIf, both, turn, reworded}
+use Rattle.pipes_grammar.specs.Grammar.{HasSourceName}
 use Rattle.pipes_reader.proofs.Repeats.{Many, last_step, more_steps, ManyBefore, over, last_before}
-use Rattle.pipes_reader.proofs.Repeats.{more_before, reads_many}
+use Rattle.pipes_reader.proofs.Repeats.{more_before, reads_fitting}
 use Rattle.pipes_reader.proofs.Singles.{Pure, pure, one}
 use Rattle.pipes_reader.proofs.Singles.{mapped, mapped_before}
 use Rattle.pipes_reader.proofs.Singles.{NotNext, given, absent}
@@ -509,16 +510,18 @@ module _ (names : List (List ℕ)) (some : 0 < length names) (mode : Mode) where
   script_unended _ _ _ _ (grammar.AreCommands.next fs gs hs c cs ks ls is are) =
       both_unended ks ls (one_unended fs gs c ks is) (script_unended gs hs cs ls are)
 
-  pub reads_script : IsReader (IsScript names) ScriptIn AtToken (parse_script names mode)
+  pub reads_script : IsReaderIf (λ ts. HasSourceName names) (IsScript names) ScriptIn AtToken
+      (parse_script names mode)
   unfolding parse_script
   reads_script =
       reworded (Many (StepIs names) no_commands) (IsScript names)
       (ManyBefore (StepIn names mode) (OverIn mode) 65536 no_commands) ScriptIn AtToken
       (parse_script names mode)
-      (reads_many (StepIs names) (StepIn names mode) (OverIn mode) (next_command names mode)
-      (end_commands mode)
+      (reads_fitting (StepIs names) (StepIn names mode) (OverIn mode) (next_command names mode)
+      (end_commands mode) (λ s. HasSourceName names) (λ left s. HasSourceName names)
       (reads_step names some mode) (reads_over names some mode) (some_many names)
-      (steps_on names mode) 65536 no_commands)
+      (steps_on names mode) (λ left s known. known) (λ left s s2 ks h is known. known) 65536
+      no_commands)
       (λ t ks m. spelled any t ks (gathered names no_commands t ks m))
       (λ t ks is. script_unended [] t.files t.commands ks is)
       (λ t ks h m. limited t ks h (within 65536 no_commands t ks h m (omega arith)))

@@ -17,18 +17,20 @@ use Rattle.pipes_reader.specs.Causes.{other_word}
 use Rattle.pipes_reader.specs.Places.{AtToken, there}
 use Rattle.pipes_reader.proofs.Causes.{HasValue, NoValue, LeafWhy, IsSteady, steady_by, plain_why}
 use Rattle.pipes_reader.specs.Taking.{number_between, take_number, string_content, take_text}
-use Rattle.pipes_reader.proofs.Readers.{IsReader, Then, both, ThenBefore, turns, reworded}
+use Rattle.pipes_reader.proofs.Readers.{IsReader, IsReaderIf, under, Then, both, ThenBefore}
+use Rattle.pipes_reader.proofs.Readers.{turns, reworded}
 use Rattle.pipes_reader.proofs.Repeats.{Many, last_step, more_steps}
 use Rattle.pipes_reader.proofs.Repeats.{many_unended, StepsOn}
 use Rattle.pipes_reader.proofs.Singles.{Pure, pure, reads_none, One, one, NotLast, HasCauses}
-use Rattle.pipes_reader.proofs.Singles.{reads_one}
+use Rattle.pipes_reader.proofs.Singles.{reads_one_if}
 use Rattle.pipes_reader.proofs.Singles.{refused_place, Mapped, mapped, MappedBefore}
 use Rattle.pipes_reader.proofs.Singles.{reads_mapped, NotNext, Optional, given, absent}
 use Rattle.pipes_reader.proofs.Singles.{OptionalBefore, TailIs}
 use Rattle.pipes_reader.proofs.Singles.{TailBefore, reads_tail, Guarded, guarded_by}
 use Rattle.pipes_reader.proofs.Values.{some_number, reads_number, some_text}
 use Rattle.pipes_reader.proofs.Values.{reads_text}
-use Rattle.pipes_grammar.specs.Grammar.{source_named}
+use Rattle.pipes_grammar.specs.Grammar.{source_named, HasSourceName}
+use Rattle.pipes_grammar.proofs.PlanLevels.{first_named}
 use Rattle.pipes_query.specs.declared.script.Command.TheVariants as command
 use Rattle.pipes_query.specs.declared.script.Mode.{Mode}
 use Rattle.pipes_query.specs.declared.script.Mode.TheVariants.{Inline, Threaded}
@@ -40,7 +42,6 @@ use Rattle.pipes_text.specs.ScriptReading.{bar_refused}
 use Rattle.pipes_text.specs.ScriptReading.{read_bar, source_of, source_refused, take_source}
 use Rattle.pipes_text.specs.ScriptReading.{with_command, with_migrate, read_command, are_most}
 use Rattle.pipes_text.specs.ScriptReading.{and_more, command_or_end, next_command, end_commands}
-use Rattle.pipes_text.proofs.QueryTexts.{first_named}
 
 -- ---- the first token of a command
 
@@ -174,15 +175,10 @@ is_name (Name w) = true
 is_name _ = false
 
 -- a word that isn't declared, where another is
-source_causes : (names : List (List ℕ)) → 0 < length names
+source_causes : (names : List (List ℕ)) → HasSourceName names
     → HasCauses (source_of names) source_refused
-source_causes names some k at is = by k is
+source_causes names known k at is = by k is
   where
-    declared : (names : List (List ℕ)) → 0 < length names
-        → (w : List ℕ) × HasValue (source_of names) (Name w)
-    declared [] le = absurd (omega (arith, le))
-    declared (name ∷ rest) le = (name, (0, first_named name rest))
-
     others : (k j : TokenKind) → AreAlike k j → is_name k ≡ false → NoValue (source_of names) k
         → NoValue (source_of names) j
     others _ _ (itself k) e none = none
@@ -197,7 +193,7 @@ source_causes names some k at is = by k is
 
     by : (k : TokenKind) → NoValue (source_of names) k
         → LeafWhy (source_of names) k (source_refused k at).why
-    by (Name w) none = let d = declared names some in other_word (Name w) d.0 tt d.1
+    by (Name w) none = other_word (Name w) known.name tt known.named (known.place, known.is)
     by (Sign x) none = plain (Sign x) refl none
     by (Keyword x) none = plain (Keyword x) refl none
     by (Number x) none = plain (Number x) refl none
@@ -208,12 +204,12 @@ source_causes names some k at is = by k is
     by End none = plain End refl none
 
 reads_source : (names : List (List ℕ)) → 0 < length names
-    → IsReader (One (source_of names)) (Anywhere (One (source_of names))) AtToken
-    (take_source names)
+    → IsReaderIf (λ ts. HasSourceName names) (One (source_of names))
+    (Anywhere (One (source_of names))) AtToken (take_source names)
 unfolding take_source
 reads_source names some =
-    reads_one (source_of names) source_refused (some_source names some) (source_not_last names)
-    (λ k at is. inl (source_place k at)) (source_causes names some)
+    reads_one_if (HasSourceName names) (source_of names) source_refused (some_source names some)
+    (source_not_last names) (λ k at is. inl (source_place k at)) (source_causes names)
 
 -- ---- a command after its first token
 
@@ -250,8 +246,8 @@ some_count s i = let n =
     some_number 1 4000000 (omega arith) in (fed s i n.0, n.1, mapped n.0 n.1 n.2)
 
 pub reads_command : (names : List (List ℕ)) → 0 < length names → (s : Script) (first : Start)
-    → IsReader (CommandIs names s first) (CommandIn names s first) AtToken
-    (read_command names s first)
+    → IsReaderIf (λ ts. HasSourceName names) (CommandIs names s first) (CommandIn names s first)
+    AtToken (read_command names s first)
 reads_command names some s start.Feed =
     turns (One (source_of names)) (One (source_of names))
     (λ i. Mapped (fed s i) (One counts))
@@ -260,14 +256,18 @@ reads_command names some s start.Feed =
     (λ i ks is. reads_mapped (fed s i) (One counts) (Anywhere (One counts)) (take_number 1 4000000)
     (reads_number 1 4000000 (omega arith)))
     (λ i ks is. some_count s i)
-reads_command names some s start.Rest = reads_none (with_command s command.Rest)
+reads_command names some s start.Rest =
+    under (λ ts known. tt) (reads_none (with_command s command.Rest))
 reads_command names some s start.Await =
-    reads_mapped (awaited s) (One instants) (Anywhere (One instants)) (take_number 0 horizon)
-    (reads_number 0 horizon (omega arith))
+    under (λ ts known. tt)
+    (reads_mapped (awaited s) (One instants) (Anywhere (One instants)) (take_number 0 horizon)
+    (reads_number 0 horizon (omega arith)))
 reads_command names some s start.Migrate =
-    reads_mapped (with_migrate s) (One string_content) (Anywhere (One string_content)) take_text
-    reads_text
-reads_command names some s start.Drain = reads_none (with_command s command.Drain)
+    under (λ ts known. tt)
+    (reads_mapped (with_migrate s) (One string_content) (Anywhere (One string_content)) take_text
+    reads_text)
+reads_command names some s start.Drain =
+    under (λ ts known. tt) (reads_none (with_command s command.Drain))
 
 some_command : (names : List (List ℕ)) → 0 < length names → (s : Script) (first : Start)
     → Begins (CommandIs names s first) []
@@ -320,7 +320,8 @@ some_more names some s k first e =
     )
 
 reads_end : (names : List (List ℕ)) → 0 < length names → (s : Script)
-    → IsReader (StepIs names s) (EndIn names s) AtToken (command_or_end names s)
+    → IsReaderIf (λ ts. HasSourceName names) (StepIs names s) (EndIn names s) AtToken
+    (command_or_end names s)
 reads_end names some s =
     reads_tail command_start_of (MoreIs names s) (MoreIn names s)
     (λ first. in_turn (read_command names s first) (λ t. done_with (and_more t)))
@@ -334,7 +335,8 @@ stopping : (names : List (List ℕ)) (s : Script) → StepIs names s (stop s) []
 stopping names s = both None (stop s) [] [] absent pure
 
 pub reads_step : (names : List (List ℕ)) → 0 < length names → (mode : Mode) (s : Script)
-    → IsReader (StepIs names s) (StepIn names mode s) AtToken (next_command names mode s)
+    → IsReaderIf (λ ts. HasSourceName names) (StepIs names s) (StepIn names mode s) AtToken
+    (next_command names mode s)
 unfolding next_command read_bar
 reads_step names some mode s =
     guarded_by (StepIs names s) (EndIn names s) AtToken (bar_of mode false (are_most s))

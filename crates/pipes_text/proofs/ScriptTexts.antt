@@ -12,6 +12,7 @@ use Rattle.pipes_query.specs.declared.query.Query.{Query}
 use Rattle.pipes_query.specs.declared.script.Mode.{Mode}
 use Rattle.pipes_query.specs.declared.script.Script.{Script}
 use Rattle.pipes_query.specs.Queries.{names_of}
+use Rattle.pipes_grammar.specs.Grammar.{HasSourceName}
 use Rattle.pipes_text.specs.Scripts.{IsScript, IsScriptText}
 use Rattle.pipes_text.specs.ScriptReading.{parse_script}
 use Rattle.pipes_text.specs.ScriptTexts.{IsFileOfScript, ScriptCause}
@@ -50,17 +51,19 @@ module _ (q : Query) (mode : Mode) (names : List (List ℕ)) (same : names ≡ n
       (reads_script (names_of q.sources) (some_names q.sources some) mode)
       (λ x ks h at. at.0) (λ x ks at. (at, refl)) bytes s result of_query it
 
-  refused_by : (result : Result Script ReadFault)
+  refused_by : (result : Result Script ReadFault) → HasSourceName (names_of q.sources)
       → IsReadBy (parse_script (names_of q.sources) mode) bytes result
       → IfErr result (λ f. ScriptCause q mode bytes f)
-  refused_by (Ok s) by = tt
-  refused_by (Err (fault.Text r)) by =
+  refused_by (Ok s) known by = tt
+  refused_by (Err (fault.Text r)) known by =
       text_refused (IsScript (names_of q.sources)) (IsScriptText (names_of q.sources) mode)
       (ScriptIn (names_of q.sources) (some_names q.sources some) mode) AtToken AtToken
       (parse_script (names_of q.sources) mode)
       (reads_script (names_of q.sources) (some_names q.sources some) mode)
-      (λ x ks h it. it.0) (λ x ks it. (it, refl)) (λ before t r p. p) (λ before t r p. p) bytes r by
-  refused_by (Err fault.Memory) by = tt
+      (λ x ks h it. it.0) (λ x ks it. (it, refl)) (λ before t r p. p) (λ before t r p. p)
+      (λ n bs ts are. known) bytes r by
+  refused_by (Err fault.Memory) known by = tt
 
-  pub script_refused : IfErr result (λ f. ScriptCause q mode bytes f)
-  script_refused = refused_by result of_query
+  pub script_refused : HasSourceName (names_of q.sources)
+      → IfErr result (λ f. ScriptCause q mode bytes f)
+  script_refused known = refused_by result known of_query

@@ -1,7 +1,7 @@
 -- What is read as a source is in the grammar, and what is in the grammar is read.
-use Rattle.std.proofs.Common.{◌≡◌, ℕ, zero, suc, ◌≤◌, Bool, true, false, List, [], ◌∷◌, ◌++◌}
-use Rattle.std.proofs.Common.{length, Option, Some, None, refl, sym, ap, subst, ◌∙◌, append_assoc}
-use Rattle.std.proofs.Common.{inr, arith}
+use Rattle.std.proofs.Common.{◌≡◌, ℕ, zero, suc, ◌<◌, ◌≤◌, Bool, true, false, List, [], ◌∷◌}
+use Rattle.std.proofs.Common.{◌++◌, length, Option, Some, None, refl, sym, ap, subst, ◌∙◌}
+use Rattle.std.proofs.Common.{append_assoc, inr, arith}
 use Rattle.std.proofs.lemmas.List.{append-nil}
 use Rattle.pipes_time.specs.Interval.{horizon}
 use Rattle.pipes_time.specs.Slides.{IsDuration}
@@ -22,7 +22,8 @@ use Rattle.pipes_reader.specs.Taking.{number_between, take_number, string_conten
 use Rattle.pipes_reader.specs.Taking.{take_name}
 use Rattle.pipes_reader.proofs.Fresh.{fresh}
 use Rattle.pipes_reader.proofs.TokenLists.{both_unended, tokens_of, kinds-tokens}
-use Rattle.pipes_reader.proofs.Readers.{IsReader, Then, both, ThenBefore, turn, ReadsSome}
+use Rattle.pipes_reader.proofs.Readers.{IsReader, IsReaderIf, Then, both, ThenBefore, turn}
+use Rattle.pipes_reader.proofs.Readers.{ReadsSome}
 use Rattle.pipes_reader.proofs.Readers.{turns_if, turns, reworded}
 use Rattle.pipes_reader.proofs.Singles.{Pure, pure, One, one, Mapped, mapped, MappedBefore}
 use Rattle.pipes_reader.proofs.Singles.{mapped_before, reads_mapped, NotNext, Optional, given}
@@ -383,7 +384,8 @@ reads_file name =
     (λ x ks is. ((name, []), Text [] ∷ [], mapped [] (Text [] ∷ []) (one (Text []) [] refl)))
 
 pub reads_head : (names : List (List ℕ))
-    → IsReader (IsHead names) (Anywhere (IsHead names)) AtToken (read_head names)
+    → IsReaderIf (λ ts. length names < 64) (IsHead names) (Anywhere (IsHead names)) AtToken
+    (read_head names)
 unfolding read_head
 reads_head names =
     reworded (HeadIs names) (IsHead names) (HeadIn names) (Anywhere (IsHead names)) AtToken
@@ -718,7 +720,8 @@ some_shape head =
     )
 
 pub reads_source : (names : List (List ℕ))
-    → IsReader (IsNewSource any names) (SourceIn names) AtToken (read_source names)
+    → IsReaderIf (λ ts. length names < 64) (IsNewSource any names) (SourceIn names) AtToken
+    (read_source names)
 unfolding read_source
 reads_source names =
     reworded (SourceIs names) (IsNewSource any names) (SourceTurns names) (SourceIn names) AtToken

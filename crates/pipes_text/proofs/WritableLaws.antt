@@ -21,7 +21,8 @@ use Rattle.pipes_window.specs.declared.kind.WindowKind.TheVariants as window
 use Rattle.pipes_window.specs.Windows.{IsWindow}
 use Rattle.pipes_reader.specs.Names.{AreNew}
 use Rattle.pipes_print.specs.Printed.{AreSpelled}
-use Rattle.pipes_print.specs.Writable.{Each, IsSourceName, AreSourceNames, IsWritablePlan}
+use Rattle.pipes_print.specs.Writable.{Each, AreSourceNames, IsWritablePlan}
+use Rattle.pipes_reader.specs.Names.{IsSourceName}
 use Rattle.pipes_print.specs.Writable.{IsCheckedPlan}
 use Rattle.pipes_print.proofs.ExprPrinting.{spelled_parts}
 use Rattle.pipes_print.proofs.WritableExprs.{spelled_append, sign_spelled, keyword_spelled}

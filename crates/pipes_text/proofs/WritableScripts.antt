@@ -25,7 +25,8 @@ use Rattle.pipes_token.proofs.Quoting.{write_quoted}
 use Rattle.pipes_reader.specs.Names.{is_taken, AreNew}
 use Rattle.pipes_grammar.specs.Grammar.{source_named}
 use Rattle.pipes_print.specs.Printed.{AreSpelled}
-use Rattle.pipes_print.specs.Writable.{Each, IsSourceName}
+use Rattle.pipes_print.specs.Writable.{Each}
+use Rattle.pipes_reader.specs.Names.{IsSourceName}
 use Rattle.pipes_print.proofs.ExprPrinting.{spelled_parts}
 use Rattle.pipes_print.proofs.WritableExprs.{text_spelled, spelled_text}
 use Rattle.pipes_print.proofs.WritablePlans.{NameAt, named_at, none_of_two}
@@ -41,7 +42,7 @@ use Rattle.pipes_text.specs.Scripts.{AreCommands, IsScriptText}
 use Rattle.pipes_text.specs.ScriptTexts.{HasScriptText}
 use Rattle.pipes_text.specs.Writable.{IsFileName, IsWritableCommand, NumberFiles, IsWritableScript}
 use Rattle.pipes_text.specs.Writable.{IsWritableQuery}
-use Rattle.pipes_text.proofs.PrintLaws.{spelled_prefix, text_by}
+use Rattle.pipes_text.proofs.PrintLaws.{spelled_prefix, text_by, word_then}
 use Rattle.pipes_text.proofs.WritableLaws.{source_names, count_names}
 
 -- ---- names that are found or not
@@ -260,9 +261,6 @@ pub record Written (Is : List TokenKind → Type 0) : Type 0 where
   pub is : Is kinds
   pub bytes : List ℕ
   pub writes : WritesFreely kinds bytes
-
-word_then : (k : AKeyword) → WritesFreely (Keyword k ∷ []) (keyword_text k ++ (32 ∷ []))
-word_then k = write_space_after (Keyword k ∷ []) (keyword_text k) (write_keyword k)
 
 number_then : (n : ℕ) → n < 2 ^ 64 → WritesFreely (Number n ∷ []) (decimal n ++ (32 ∷ []))
 number_then n small = write_space_after (Number n ∷ []) (decimal n) (write_number n small)

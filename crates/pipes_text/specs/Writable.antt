@@ -4,7 +4,8 @@ use Rattle.pipes_time.specs.Interval.{horizon}
 use Rattle.pipes_token.specs.Spelling.{IsShortWord}
 use Rattle.pipes_window.specs.Windows.{IsWindow}
 use Rattle.pipes_reader.specs.Names.{AreNew}
-use Rattle.pipes_print.specs.Writable.{Each, IsSourceName, IsWritablePlan}
+use Rattle.pipes_print.specs.Writable.{Each, IsWritablePlan}
+use Rattle.pipes_reader.specs.Names.{IsSourceName}
 use Rattle.pipes_query.specs.declared.query.SourceDecl.{SourceDecl}
 use Rattle.pipes_query.specs.declared.query.Query.{Query}
 use Rattle.pipes_query.specs.declared.script.Command.{Command}

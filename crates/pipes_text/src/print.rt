@@ -1,6 +1,5 @@
 // Printing queries.
 ghost use Rattle.std.specs.Prelude.{◌≡◌, ◌++◌, length, OnOk, OnErr};
-ghost use Rattle.std.specs.Fmt.{decimal};
 ghost use Rattle.pipes_tuple.specs.Texts.{quoted};
 ghost use Rattle.pipes_text.specs.Texts.{IsTextOfQuery};
 ghost use Rattle.pipes_text.specs.Printing.{HasText, with_plan};
@@ -9,39 +8,20 @@ ghost use Rattle.pipes_print.specs.Writable.{IsCheckedPlan};
 ghost use Rattle.pipes_text.specs.Writable.{IsWritableQuery};
 
 use crate::names::names_of;
-use itoa::Buffer;
 use pipes_plan::Plan;
 use pipes_query::{Query, SourceDecl};
 use pipes_time::Memory;
-use pipes_tuple::{Kind, Text, Value};
+use pipes_tuple::{Kind, Text, Value, append, append_number};
 use pipes_window::WindowKind;
 use std::alloc::Global;
-
-// Appends the bytes.
-fn push(bytes: &[u8], out: &mut Vec<u8>) -> Result<(), Memory>
-    ensures ok { OnOk result (out.new.items ≡ out.old.items ++ bytes.now) }
-    ensures err { OnErr result (out.new.items ≡ out.old.items) }
-{
-    match out.extend_from_slice(bytes) {
-        Ok(()) => Ok(()),
-        Err(_) => Err(Memory),
-    }
-}
-
-// Appends the number in decimal.
-fn push_number(number: u64, out: &mut Vec<u8>) -> Result<(), Memory>
-    ensures { OnOk result (out.new.items ≡ out.old.items ++ decimal number) }
-{
-    push(Buffer::new().format(number).as_bytes(), out)
-}
 
 // Appends a column.
 fn push_column(name: &Text, kind: Kind, out: &mut Vec<u8>) -> Result<(), Memory>
     ensures { OnOk result (out.new.items ≡ out.old.items ++ spec.column_text name.now kind) }
 {
-    push(name.as_str().as_bytes(), out)?;
-    push(b" ", out)?;
-    push(kind.word(), out)
+    append(name.as_str().as_bytes(), out)?;
+    append(b" ", out)?;
+    append(kind.word(), out)
 }
 
 // Appends the other columns, each after a comma.
@@ -54,7 +34,7 @@ fn push_more_columns(names: &[Text], kinds: &[Kind], out: &mut Vec<u8>) -> Resul
         [name, names @ ..] => match kinds {
             [] => Ok(()),
             [kind, kinds @ ..] => {
-                push(b", ", out)?;
+                append(b", ", out)?;
                 push_column(name, *kind, out)?;
                 push_more_columns(names, kinds, out)
             }
@@ -84,18 +64,18 @@ fn push_window(window: WindowKind, out: &mut Vec<u8>) -> Result<(), Memory>
 {
     match window {
         WindowKind::Time(size) => {
-            push(b"time ", out)?;
-            push_number(size, out)
+            append(b"time ", out)?;
+            append_number(size, out)
         }
         WindowKind::Slide(size, slide) => {
-            push(b"time ", out)?;
-            push_number(size, out)?;
-            push(b" slide ", out)?;
-            push_number(slide, out)
+            append(b"time ", out)?;
+            append_number(size, out)?;
+            append(b" slide ", out)?;
+            append_number(slide, out)
         }
         WindowKind::Count(size) => {
-            push(b"count ", out)?;
-            push_number(size as u64, out)
+            append(b"count ", out)?;
+            append_number(size as u64, out)
         }
     }
 }
@@ -111,9 +91,9 @@ fn push_quoted(text: &Text, out: &mut Vec<u8>) -> Result<(), Memory>
 fn push_head(source: &SourceDecl, out: &mut Vec<u8>) -> Result<(), Memory>
     ensures { OnOk result (out.new.items ≡ out.old.items ++ spec.head_text source.now) }
 {
-    push(b"source ", out)?;
-    push(source.name.as_str().as_bytes(), out)?;
-    push(b" from ", out)?;
+    append(b"source ", out)?;
+    append(source.name.as_str().as_bytes(), out)?;
+    append(b" from ", out)?;
     push_quoted(&source.file, out)
 }
 
@@ -124,21 +104,21 @@ fn push_slack(slack: u64, out: &mut Vec<u8>) -> Result<(), Memory>
     if slack == 0 {
         return Ok(());
     }
-    push(b" slack ", out)?;
-    push_number(slack, out)
+    append(b" slack ", out)?;
+    append_number(slack, out)
 }
 
 // Appends its columns, slack and window.
 fn push_shape(source: &SourceDecl, out: &mut Vec<u8>) -> Result<(), Memory>
     ensures { OnOk result (out.new.items ≡ out.old.items ++ spec.shape_text source.now) }
 {
-    push(b" (", out)?;
+    append(b" (", out)?;
     push_columns(source.names.as_slice(), source.schema.as_slice(), out)?;
-    push(b")", out)?;
+    append(b")", out)?;
     push_slack(source.slack, out)?;
-    push(b" window ", out)?;
+    append(b" window ", out)?;
     push_window(source.window, out)?;
-    push(b"\n", out)
+    append(b"\n", out)
 }
 
 // Appends a source's line.
@@ -167,9 +147,9 @@ fn push_plan(sources: &[SourceDecl], plan: &Plan, out: &mut Vec<u8>) -> Result<(
     ensures { OnOk result (out.new.items ≡ out.old.items ++ spec.plan_line sources.now plan.now) }
 {
     let names = names_of(*out.allocator(), sources)?;
-    push(b"plan ", out)?;
+    append(b"plan ", out)?;
     pipes_print::print_plan(names.as_slice(), plan, out)?;
-    push(b"\n", out)
+    append(b"\n", out)
 }
 
 /// Appends the text of the query: a line for each source, and one for the plan. When memory runs
@@ -187,7 +167,7 @@ pub fn print_query(query: &Query, out: &mut Vec<u8>) -> Result<(), Memory>
     let mut text = Vec::new(*out.allocator());
     push_sources(query.sources.as_slice(), &mut text)?;
     push_plan(query.sources.as_slice(), &query.plan, &mut text)?;
-    push(text.as_slice(), out)
+    append(text.as_slice(), out)
 }
 
 /// Appends the line of a plan over the query's sources. When memory runs out,
@@ -209,5 +189,5 @@ pub fn print_plan(query: &Query, plan: &Plan, out: &mut Vec<u8>) -> Result<(), M
 {
     let mut text = Vec::new(*out.allocator());
     push_plan(query.sources.as_slice(), plan, &mut text)?;
-    push(text.as_slice(), out)
+    append(text.as_slice(), out)
 }

@@ -3,6 +3,8 @@ ghost use Rattle.std.specs.Prelude.{◌≤◌, IfOk, IfErr, length};
 ghost use Rattle.pipes_reader.specs.Reading.{GivesFrom};
 ghost use Rattle.pipes_query.specs.declared.query.Query.{Query as AQuery};
 ghost use Rattle.pipes_reader.specs.Texts.{ReadAs};
+ghost use Rattle.pipes_grammar.specs.Grammar.{HasSourceName};
+ghost use Rattle.pipes_query.specs.Queries.{names_of};
 ghost use Rattle.pipes_text.specs.Texts.{IsFileOfQuery, QueryCause};
 ghost use Rattle.pipes_text.specs.Reading as spec;
 
@@ -89,12 +91,14 @@ impl Parser<Query> for QueryParser {
 }
 
 /// The query of the text.
-#[tactic(auto, using(crate::proofs::QueryTexts::query_found, crate::proofs::QueryTexts::read_some, crate::proofs::QueryTexts::query_only, crate::proofs::QueryTexts::query_refused))]
+#[tactic(auto, using(crate::proofs::QueryTexts::query_found, crate::proofs::QueryTexts::read_some, crate::proofs::QueryTexts::read_named, crate::proofs::QueryTexts::query_only, crate::proofs::QueryTexts::query_refused))]
 pub fn read_query(alloc: Global, bytes: &[u8]) -> Result<Query, ReadFault>
     // What is read is the text's query.
     ensures found { IfOk result (λ query. IsFileOfQuery query bytes.now) }
     // It declares a source.
     ensures some { IfOk result (λ query. 1 ≤ length query.sources) }
+    // One of its sources has a name that texts have.
+    ensures named { IfOk result (λ query. HasSourceName (names_of query.sources)) }
     // The text's query is read, unless memory runs out.
     ensures only { (query : AQuery) → IsFileOfQuery query bytes.now → ReadAs query result }
     // A refusal is the first that the text has, and it has one.

@@ -4,6 +4,8 @@ ghost use Rattle.std.specs.Prelude.{length};
 ghost use Rattle.pipes_query.specs.declared.script.Script.{Script as AScript};
 ghost use Rattle.pipes_reader.specs.Reading.{GivesFrom};
 ghost use Rattle.pipes_reader.specs.Texts.{ReadAs};
+ghost use Rattle.pipes_grammar.specs.Grammar.{HasSourceName};
+ghost use Rattle.pipes_query.specs.Queries.{names_of};
 ghost use Rattle.pipes_text.specs.Scripts.{migrations};
 ghost use Rattle.pipes_text.specs.ScriptReading as spec;
 ghost use Rattle.pipes_text.specs.ScriptTexts.{IsFileOfScript, ScriptCause, HasScriptText};
@@ -306,8 +308,10 @@ pub fn read_script(
     // The text's script is read, unless memory runs out.
     ensures only { (script : AScript) → IsFileOfScript query.now mode script bytes.now
         → ReadAs script result }
-    // A refusal is the first that the text has, and it has one.
-    ensures refused { IfErr result (λ fault. ScriptCause query.now mode bytes.now fault) }
+    // A refusal is the first that the text has, and it has one, where one of the sources has a name
+    // that texts have, as in each query that was read.
+    ensures refused { HasSourceName (names_of query.now.sources)
+        → IfErr result (λ fault. ScriptCause query.now mode bytes.now fault) }
     // A script that some text has is writable.
     ensures writable { (script : AScript) → HasScriptText query.now mode script
         → IsWritableScript (length query.now.sources) mode script }

@@ -7,7 +7,7 @@ use Rattle.pipes_tuple.specs.Equal.{tuple_eq}
 use Rattle.pipes_timeline.specs.declared.piece.Piece.{Piece}
 use Rattle.pipes_timeline.specs.declared.table.Slot.{Slot}
 use Rattle.pipes_timeline.specs.declared.timeline.Timeline.{Timeline}
-use Rattle.pipes_timeline.specs.Weights.{weigh}
+use Rattle.pipes_stream.specs.Weights.{weigh}
 use Rattle.pipes_timeline.specs.Rules.{Row, RowBags, Arrival, KeyRule, rows_at}
 use Rattle.pipes_timeline.specs.Lines.{ends_by, no_key}
 use Rattle.pipes_timeline.specs.Queues.{FirstIsOpen, LinkedAt}
@@ -46,7 +46,7 @@ module _ {T : Type 0} (r : KeyRule) (tells : Row → T → RowBags → Type 0) w
     upto = omega arith;
     linked = λ k. subst (λ (o : Option (Slot T)). LinkedAt k base [] (place_in o)) (sym (none k))
         refl;
-    told = λ k. subst (λ (o : Option (Slot T)). Tallied r tells k o (rows_at [])) (sym (none k))
+    each_key = λ k. subst (λ (o : Option (Slot T)). Tallied r tells k o (rows_at [])) (sym (none k))
         (λ port row e. refl);
   }
 

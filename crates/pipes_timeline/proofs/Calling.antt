@@ -14,7 +14,7 @@ use Rattle.pipes_timeline.specs.declared.piece.Piece.{Piece}
 use Rattle.pipes_timeline.specs.declared.piece.Piece.TheVariants as piece
 use Rattle.pipes_timeline.specs.declared.pieces.Pieces.{Pieces}
 use Rattle.pipes_timeline.specs.declared.table.Slot.{Slot}
-use Rattle.pipes_timeline.specs.Weights.{weigh}
+use Rattle.pipes_stream.specs.Weights.{weigh}
 use Rattle.pipes_timeline.specs.Rules.{Row, RowBags, Arrival, rows_at, SameOfKey}
 use Rattle.pipes_timeline.specs.Rules.{KeyRule}
 use Rattle.pipes_timeline.specs.Ends.{AddsArrival}
@@ -28,7 +28,7 @@ use Rattle.pipes_timeline.specs.LineChanges.{none-old, new-old, line-ended, same
 use Rattle.pipes_timeline.specs.LineChanges.{back-others}
 use Rattle.pipes_timeline.specs.LineOpens.{line-begun, answer-early}
 use Rattle.pipes_timeline.proofs.Tabling.{sets-own, sets-each, sets-same, sets-twice, good_find}
-use Rattle.pipes_timeline.proofs.Tabling.{good_freed, linked-slot, told-slot, open-is, good_closed}
+use Rattle.pipes_timeline.proofs.Tabling.{good_freed, linked-slot, key-slot, open-is, good_closed}
 use Rattle.pipes_timeline.proofs.Tabling.{good_opened, good_kept, good_shut, good_voided}
 
 -- where a call succeeds, or a test
@@ -148,7 +148,7 @@ module _ {T : Type 0} (r : KeyRule) (tells : Row → T → RowBags → Type 0) (
       → Opens now k slot new_slot p new → Settles r tells now k slot new_slot p new
   settles_some slot new_slot p new some o = record {
     good = λ low live taken sent find e g.
-        (let t = told-slot r tells (only_key k) low now live find k slot p.base p.queue.items taken
+        (let t = key-slot r tells (only_key k) low now live find k slot p.base p.queue.items taken
         sent e g in
         let x = some k (rows_at live) t in
         let early = answer-early r k x.0 now live taken g.line.lives x.1 in
@@ -171,7 +171,7 @@ module _ {T : Type 0} (r : KeyRule) (tells : Row → T → RowBags → Type 0) (
       → Voids now slot new_slot p new → Settles r tells now k slot new_slot p new
   settles_none slot new_slot p new none o = record {
     good = λ low live taken sent find e g.
-        (let t = told-slot r tells (only_key k) low now live find k slot p.base p.queue.items taken
+        (let t = key-slot r tells (only_key k) low now live find k slot p.base p.queue.items taken
         sent e g in
         subst (λ (n : ℕ). Good r tells no_key low now live (sets k (Some new_slot) find) n
         new.queue.items taken sent) (sym o.1)
@@ -214,10 +214,11 @@ module _ {T : Type 0} (r : KeyRule) (tells : Row → T → RowBags → Type 0) (
               (subst (λ (o : Option ℕ). LinkedAt k base ps o) (sym place)
               (linked-slot r tells (only_key k) low now live find k slot base ps taken sent e g))
               (λ j n. g.linked j);
-          told = sets-each (λ (j : Row) (o : Option (Slot T)). Tallied r tells j o (rows_at new)) k
+          each_key = sets-each (λ (j : Row) (o : Option (Slot T)). Tallied r tells j o
+              (rows_at new)) k
               (Some new_slot) find t
               (λ j n. tallied-same j (find j) (rows_at live) (rows_at new)
-              (same j (back-key k j false n)) (g.told j));
+              (same j (back-key k j false n)) (g.each_key j));
         }
 
     pub begins : (slot freed more_slot new_slot : Slot T) (p mid new : Pieces) (s : Arrival)
@@ -234,15 +235,15 @@ module _ {T : Type 0} (r : KeyRule) (tells : Row → T → RowBags → Type 0) (
           let twice : Row → Option (Slot T) = sets k (Some more_slot) once in
           let f = frees.good low live taken sent find upto e g in
           let own : once k ≡ Some freed = sets-own k (Some freed) find in
-          let t = told-slot r tells (only_key k) low now live once k freed mid.base
+          let t = key-slot r tells (only_key k) low now live once k freed mid.base
           mid.queue.items taken sent own f in
-          let told = stays k more_slot.tally (with_arrival (rows_at live) s.0 s.1.tuple)
+          let still = stays k more_slot.tally (with_arrival (rows_at live) s.0 s.1.tuple)
           (rows_at more)
           (rows-with r.key k live more s adds) (add k (rows_at live) key t) in
           let line = line-begun r k now live more mid.queue.items taken sent s key start inside
           adds.weight f.line in
           let c = changed low live more taken (taken ++ s ∷ []) sent once freed more_slot mid.base
-          mid.queue.items own place told (same-others r.key k live more s key adds.weight)
+          mid.queue.items own place still (same-others r.key k live more s key adds.weight)
           line
           f in
           let d = settles.good low more (taken ++ s ∷ []) sent twice
@@ -266,16 +267,16 @@ module _ {T : Type 0} (r : KeyRule) (tells : Row → T → RowBags → Type 0) (
           let twice : Row → Option (Slot T) = sets k (Some less_slot) once in
           let f = frees.good low live taken sent find upto e g in
           let own : once k ≡ Some freed = sets-own k (Some freed) find in
-          let t = told-slot r tells (only_key k) low now live once k freed mid.base
+          let t = key-slot r tells (only_key k) low now live once k freed mid.base
           mid.queue.items taken sent own f in
           let with : RowBags = with_arrival (rows_at less) s.0 s.1.tuple in
-          let told = remove k (rows_at less) key
+          let still = remove k (rows_at less) key
           (stays k freed.tally (rows_at live) with
           (back-same r.key k with (rows_at live) (rows-with r.key k less live s adds)) t) in
           let line = line-ended r k now live less mid.queue.items taken sent s key
           (omega (arith, end)) adds.weight f.line in
           let c = changed low live less taken taken sent once freed less_slot mid.base
-          mid.queue.items own place told (back-others r.key k less live s key adds.weight)
+          mid.queue.items own place still (back-others r.key k less live s key adds.weight)
           line
           f in
           let d = settles.good low less taken sent twice (sets-own k (Some less_slot) once) c in

@@ -10,7 +10,7 @@ use Rattle.pipes_stream.specs.declared.message.Message.{Message}
 use Rattle.pipes_stream.specs.Lists.{run, start_of_list, Valid, beat, elements}
 use Rattle.pipes_sweep.specs.Sending.{progress_after}
 use Rattle.pipes_timeline.specs.declared.timeline.Timeline.{Timeline}
-use Rattle.pipes_timeline.specs.Weights.{weigh}
+use Rattle.pipes_stream.specs.Weights.{weigh}
 use Rattle.pipes_timeline.specs.Rules.{Row, RowBags, Arrival, KeyRule}
 use Rattle.pipes_timeline.specs.Lines.{ends_by}
 use Rattle.pipes_timeline.specs.Queues.{FirstIsOpen}
@@ -86,7 +86,7 @@ module _ {T R : Type 0} (r : KeyRule) (tells : Row → T → RowBags → Type 0)
   stands_sent old new h before ended taken earlier out between valid going was f sends
       waits most end =
       let from : HasComeTo (beat earlier) earlier =
-      record { valid = valid; going = going; behind = omega arith } in
+      record { valid = valid; going = going; at_most = omega arith } in
       let m = sends.good taken earlier (beat earlier) from f.runs in
       let over = subst (λ (es : List Arrival). weigh (λ (d : Arrival). ends_by h d.1.span) es ≡ 0)
       (sym sends.ends) f.over in

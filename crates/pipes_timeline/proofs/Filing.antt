@@ -10,7 +10,8 @@ use Rattle.std.specs.List.{All}
 use Rattle.std.proofs.lemmas.Bool.Decides.{nat_tests}
 use Rattle.std.proofs.lemmas.List.Elements.{All-nil, All-cons, All-head, All-tail}
 use Rattle.std.proofs.lemmas.Map.Lookups.{exact_unsigned}
-use Rattle.pipes_timeline.specs.Weights.{weigh}
+use Rattle.pipes_sweep.proofs.Indices.{then-gt}
+use Rattle.pipes_stream.specs.Weights.{weigh}
 use Rattle.pipes_timeline.specs.Rules.{Arrival}
 use Rattle.pipes_stream.specs.declared.Elem.{Elem}
 use Rattle.pipes_timeline.specs.Ends.{AddsArrival}
@@ -90,18 +91,13 @@ pub filed_put : (at : Elem → ℕ) (k : Filed) (next : ℕ) (v : Arrival)
 filed_put at k next v old new here is h put = rw (is, put) (put-filed at k v old here h)
 
 -- ---- the first
-le-cmp : (n k : ℕ) → is_gt (nat_cmp n k) ≡ false → n ≤ k
+pub le-cmp : (n k : ℕ) → is_gt (nat_cmp n k) ≡ false → n ≤ k
 le-cmp n k h = grind (arith, nat_tests)
 
-then-less : (o p : Ordering) → ordering_then o p ≡ Less → is_gt o ≡ false
+pub then-less : (o p : Ordering) → ordering_then o p ≡ Less → is_gt o ≡ false
 then-less Less p h = refl
 then-less Equal p h = refl
 then-less Greater p h = absurd cc
-
-then-gt : (o p : Ordering) → is_gt (ordering_then o p) ≡ false → is_gt o ≡ false
-then-gt Less p h = refl
-then-gt Equal p h = refl
-then-gt Greater p h = h
 
 at-above : (at : Elem → ℕ) (n next : ℕ) (es : List (Filed × Arrival)) → IsFiled at next es
     → All (λ k. n ≤ k.0) (keys_of es) → All (λ s. n ≤ at s.1) (values_of es)

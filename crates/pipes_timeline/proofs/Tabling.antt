@@ -9,8 +9,8 @@ use Rattle.pipes_stream.specs.declared.Elem.{Elem}
 use Rattle.pipes_timeline.specs.declared.piece.Piece.{Piece}
 use Rattle.pipes_timeline.specs.declared.piece.Piece.TheVariants as piece
 use Rattle.pipes_timeline.specs.declared.table.Slot.{Slot}
-use Rattle.pipes_timeline.specs.Weights.{weigh}
-use Rattle.pipes_timeline.specs.WeightLaws.{weigh-append, weigh-member}
+use Rattle.pipes_stream.specs.Weights.{weigh}
+use Rattle.pipes_stream.proofs.Weights.{weigh-append, weigh-member}
 use Rattle.pipes_timeline.specs.Rules.{Row, RowBags, Arrival, rows_at}
 use Rattle.pipes_timeline.specs.Rules.{KeyRule}
 use Rattle.pipes_timeline.specs.Lines.{opens, is_old, start_at, starts_early, none_counted, unfit}
@@ -136,8 +136,8 @@ module _ {T : Type 0} (r : KeyRule) (tells : Row → T → RowBags → Type 0) w
     upto = g.upto;
     linked = λ q. subst (λ (o : Option (Slot T)). LinkedAt q base ps (place_in o)) (e q)
         (g.linked q);
-    told = λ q. subst (λ (o : Option (Slot T)). Tallied r tells q o (rows_at live)) (e q)
-        (g.told q);
+    each_key = λ q. subst (λ (o : Option (Slot T)). Tallied r tells q o (rows_at live)) (e q)
+        (g.each_key q);
   }
 
   -- ---- the key becomes free
@@ -151,7 +151,7 @@ module _ {T : Type 0} (r : KeyRule) (tells : Row → T → RowBags → Type 0) w
     order = g.order;
     upto = g.upto;
     linked = g.linked;
-    told = g.told;
+    each_key = g.each_key;
   }
 
   pub linked-slot : (free : Row → Bool) (low now : ℕ) (live : List Arrival)
@@ -161,13 +161,13 @@ module _ {T : Type 0} (r : KeyRule) (tells : Row → T → RowBags → Type 0) w
   linked-slot free low now live find k slot base ps taken sent e g =
       subst (λ (o : Option (Slot T)). LinkedAt k base ps (place_in o)) e (g.linked k)
 
-  pub told-slot : (free : Row → Bool) (low now : ℕ) (live : List Arrival)
+  pub key-slot : (free : Row → Bool) (low now : ℕ) (live : List Arrival)
       (find : Row → Option (Slot T)) (k : Row) (slot : Slot T) (base : ℕ) (ps : List Piece)
       (taken : List Arrival) (sent : List Elem) → find k ≡ Some slot
       → Good r tells free low now live find base ps taken sent
       → tells k slot.tally (rows_at live)
-  told-slot free low now live find k slot base ps taken sent e g =
-      subst (λ (o : Option (Slot T)). Tallied r tells k o (rows_at live)) e (g.told k)
+  key-slot free low now live find k slot base ps taken sent e g =
+      subst (λ (o : Option (Slot T)). Tallied r tells k o (rows_at live)) e (g.each_key k)
 
   -- a link to another key's piece
   linked-other : (k q : Row) (base i b : ℕ) (ps : List Piece) (new : Piece) (o : Option ℕ)
@@ -223,7 +223,7 @@ module _ {T : Type 0} (r : KeyRule) (tells : Row → T → RowBags → Type 0) w
       let l : LinkedAt k base ps (Some place) =
       subst (λ (o : Option ℕ). LinkedAt k base ps o) slot_at l0 in
       let here : slice_get ps i ≡ Some (piece.Open k b) = open-is k base place b ps l start in
-      let t = told-slot no_key low now live find k slot base ps taken sent at g in
+      let t = key-slot no_key low now live find k slot base ps taken sent at g in
       let q : Piece = piece.Closed e many in
       record {
         line = line-closed r k now b i live ps taken sent e many here from to (answer t) g.line;
@@ -236,20 +236,21 @@ module _ {T : Type 0} (r : KeyRule) (tells : Row → T → RowBags → Type 0) w
             (own-shut r k now b i live ps taken sent q here (λ j. refl) (g.line.single k)))
             (λ j n. linked-other k j base i b ps q (place_in (find j)) here (λ j. refl) n
             (g.linked j));
-        told = sets-each (λ (j : Row) (o : Option (Slot T)). Tallied r tells j o (rows_at live)) k
+        each_key = sets-each (λ (j : Row) (o : Option (Slot T)). Tallied r tells j o (rows_at live))
+            k
             (Some new_slot) find
-            (subst (λ (a : T). tells k a (rows_at live)) (sym same) t) (λ j n. g.told j);
+            (subst (λ (a : T). tells k a (rows_at live)) (sym same) t) (λ j n. g.each_key j);
       }
 
   -- ---- the key is settled
-  told-kept : (k : Row) (live : List Arrival) (find : Row → Option (Slot T))
+  key-kept : (k : Row) (live : List Arrival) (find : Row → Option (Slot T))
       (slot new_slot : Slot T) → new_slot.tally ≡ slot.tally → tells k slot.tally (rows_at live)
       → ((q : Row) → Tallied r tells q (find q) (rows_at live))
       → (q : Row) → Tallied r tells q (sets k (Some new_slot) find q) (rows_at live)
-  told-kept k live find slot new_slot same t told =
+  key-kept k live find slot new_slot same t each_key =
       sets-each (λ (j : Row) (o : Option (Slot T)). Tallied r tells j o (rows_at live)) k
       (Some new_slot) find (subst (λ (a : T). tells k a (rows_at live)) (sym same) t)
-      (λ j n. told j)
+      (λ j n. each_key j)
 
   pub good_opened : (low now : ℕ) (live : List Arrival) (find : Row → Option (Slot T)) (k : Row)
       (slot new_slot : Slot T) (base : ℕ) (ps : List Piece) (taken : List Arrival)
@@ -277,8 +278,8 @@ module _ {T : Type 0} (r : KeyRule) (tells : Row → T → RowBags → Type 0) w
             (subst (λ (o : Option ℕ). LinkedAt k base (ps ++ p ∷ []) o) (sym place)
             (omega arith, (now, there)))
             (λ j n. pushed j n (place_in (find j)) (g.linked j));
-        told = told-kept k live find slot new_slot same
-            (told-slot (only_key k) low now live find k slot base ps taken sent at g) g.told;
+        each_key = key-kept k live find slot new_slot same
+            (key-slot (only_key k) low now live find k slot base ps taken sent at g) g.each_key;
       }
     where
       pushed : (j : Row) → tuple_eq k j ≡ false → (o : Option ℕ) → LinkedAt j base ps o
@@ -313,8 +314,8 @@ module _ {T : Type 0} (r : KeyRule) (tells : Row → T → RowBags → Type 0) w
             (Some new_slot) find
             (subst (λ (o : Option ℕ). LinkedAt k base ps o) (sym place_is) l)
             (λ j n. g.linked j);
-        told = told-kept k live find slot new_slot same
-            (told-slot (only_key k) low now live find k slot base ps taken sent at g) g.told;
+        each_key = key-kept k live find slot new_slot same
+            (key-slot (only_key k) low now live find k slot base ps taken sent at g) g.each_key;
       }
 
   pub good_shut : (low now : ℕ) (live : List Arrival) (find : Row → Option (Slot T)) (k : Row)
@@ -333,8 +334,8 @@ module _ {T : Type 0} (r : KeyRule) (tells : Row → T → RowBags → Type 0) w
         linked = sets-each (λ (j : Row) (o : Option (Slot T)). LinkedAt j base ps (place_in o)) k
             (Some new_slot) find
             (subst (λ (o : Option ℕ). LinkedAt k base ps o) (sym gone) z) (λ j n. g.linked j);
-        told = told-kept k live find slot new_slot same
-            (told-slot (only_key k) low now live find k slot base ps taken sent at g) g.told;
+        each_key = key-kept k live find slot new_slot same
+            (key-slot (only_key k) low now live find k slot base ps taken sent at g) g.each_key;
       }
 
   pub good_voided : (low now : ℕ) (live : List Arrival) (find : Row → Option (Slot T)) (k : Row)
@@ -363,8 +364,8 @@ module _ {T : Type 0} (r : KeyRule) (tells : Row → T → RowBags → Type 0) w
             (own-shut r k now b i live ps taken sent q l.1.1 (λ j. refl) (g.line.single k)))
             (λ j n. linked-other k j base i b ps q (place_in (find j)) l.1.1 (λ j. refl) n
             (g.linked j));
-        told = told-kept k live find slot new_slot same
-            (told-slot (only_key k) low now live find k slot base ps taken sent at g) g.told;
+        each_key = key-kept k live find slot new_slot same
+            (key-slot (only_key k) low now live find k slot base ps taken sent at g) g.each_key;
       }
     where
       starts-now : (k : Row) (now b i : ℕ) (live taken : List Arrival) (ps : List Piece)

@@ -14,7 +14,7 @@ use Rattle.pipes_sweep.specs.Sending.{progress_after}
 use Rattle.pipes_timeline.specs.declared.piece.Piece.{Piece}
 use Rattle.pipes_timeline.specs.declared.piece.Piece.TheVariants as piece
 use Rattle.pipes_timeline.specs.declared.timeline.Timeline.{Timeline}
-use Rattle.pipes_timeline.specs.Weights.{weigh}
+use Rattle.pipes_stream.specs.Weights.{weigh}
 use Rattle.pipes_timeline.specs.Rules.{Row, RowBags, Arrival, KeyRule}
 use Rattle.pipes_timeline.specs.Lines.{ends_after, ends_by, starts_early, none_counted}
 use Rattle.pipes_timeline.specs.Lines.{unfit}
@@ -73,7 +73,7 @@ module _ {T R : Type 0} (r : KeyRule) (tells : Row → T → RowBags → Type 0)
     order = order-lower low high t.pieces.queue.items l g.order;
     upto = (let a = g.upto in omega (arith, a, l));
     linked = g.linked;
-    told = g.told;
+    each_key = g.each_key;
   }
 
   moved : (high at : ℕ) (sent : List Elem) → at ≤ t.instant → InOrder at t.pieces.queue.items
@@ -83,7 +83,7 @@ module _ {T R : Type 0} (r : KeyRule) (tells : Row → T → RowBags → Type 0)
     order = o;
     upto = u;
     linked = g.linked;
-    told = g.told;
+    each_key = g.each_key;
   }
 
   -- the list with what is sent after the pieces
@@ -153,7 +153,7 @@ module _ {T R : Type 0} (r : KeyRule) (tells : Row → T → RowBags → Type 0)
           let sent : List Message = earlier ++ more in
           let at : ℕ = reach t.pieces.queue.items h in
           let ran = run-push start_of_list sent (message.Beat at) in
-          let behind = reaches.behind in
+          let at_most = reaches.at_most in
           let b : beat (sent ++ message.Beat at ∷ []) ≡ at = ap (λ (p : Progress). p.beat) ran in
           record {
             now = now;
@@ -164,7 +164,7 @@ module _ {T R : Type 0} (r : KeyRule) (tells : Row → T → RowBags → Type 0)
             waits = waits;
             sent_valid = valid-push start_of_list sent (message.Beat at) reaches.valid (
               reaches.going,
-              (let a = bounds.0 in let x : beat sent ≤ at = omega (arith, a, behind) in x),
+              (let a = bounds.0 in let x : beat sent ≤ at = omega (arith, a, at_most) in x),
               (let a = bounds.1 in let x : at ≤ closed = omega (arith, a, most) in x),
             );
             sent_beat = b;
@@ -174,7 +174,7 @@ module _ {T R : Type 0} (r : KeyRule) (tells : Row → T → RowBags → Type 0)
           let sent : List Message = earlier ++ more in
           let at : ℕ = reach t.pieces.queue.items h in
           let upto : at ≤ before = not-below before at f in
-          let behind = reaches.behind in
+          let at_most = reaches.at_most in
           let rose : beat earlier ≤ beat sent =
           subst (λ (n : ℕ). beat earlier ≤ n)
           (sym (ap (λ (p : Progress). p.beat) (run-append start_of_list earlier more)))
@@ -182,11 +182,11 @@ module _ {T R : Type 0} (r : KeyRule) (tells : Row → T → RowBags → Type 0)
           (valid-suffix start_of_list earlier more reaches.valid)
           (beat-closed earlier valid)).0 in
           let is : beat sent ≡ at =
-          (let a = bounds.0 in omega (arith, a, behind, upto, rose, was)) in
+          (let a = bounds.0 in omega (arith, a, at_most, upto, rose, was)) in
           subst (λ (ms : List Message). TimelineStands r tells t h ended taken ms)
           (sym (append-nil sent)) (record {
             now = now;
-            runs = lower (beat sent) high (elements sent) behind g;
+            runs = lower (beat sent) high (elements sent) at_most g;
             over = over;
             waits = waits;
             sent_valid = reaches.valid;

@@ -21,7 +21,7 @@ use Rattle.pipes_timeline.specs.declared.piece.Piece.TheVariants as piece
 use Rattle.pipes_timeline.specs.declared.pieces.Pieces.{Pieces}
 use Rattle.pipes_timeline.specs.declared.table.Slot.{Slot}
 use Rattle.pipes_timeline.specs.declared.timeline.Timeline.{Timeline}
-use Rattle.pipes_timeline.specs.Weights.{weigh}
+use Rattle.pipes_stream.specs.Weights.{weigh}
 use Rattle.pipes_timeline.specs.Rules.{Row, RowBags, Arrival, rows_at, NoneOfKey}
 use Rattle.pipes_timeline.specs.Rules.{KeyRule}
 use Rattle.pipes_timeline.specs.Ends.{AddsArrival}
@@ -75,14 +75,14 @@ module _ {T : Type 0} (r : KeyRule) (tells : Row → T → RowBags → Type 0) (
       → ((q : Row) → after q ≡ sets k (Some new_slot) find q)
       → Begins r tells now k empty new_slot old new s
       → EntersAt r tells now k find after old new s
-  enters_absent find after empty new_slot old new s e none told same b = record {
+  enters_absent find after empty new_slot old new s e none each_key same b = record {
     good = λ low live more taken sent key start inside adds g.
         (let with : Row → Option (Slot T) = sets k (Some empty) find in
         let shut : LinkedAt k old.base old.queue.items None =
         subst (λ (o : Option (Slot T)). LinkedAt k old.base old.queue.items (place_in o)) e
         (g.linked k) in
         let no_rows : NoneOfKey r.key k (rows_at live) =
-        subst (λ (o : Option (Slot T)). Tallied r tells k o (rows_at live)) e (g.told k) in
+        subst (λ (o : Option (Slot T)). Tallied r tells k o (rows_at live)) e (g.each_key k) in
         let g1 : Good r tells no_key low now live with old.base old.queue.items taken sent =
         record {
           line = g.line;
@@ -94,9 +94,9 @@ module _ {T : Type 0} (r : KeyRule) (tells : Row → T → RowBags → Type 0) (
               (Some empty) find
               (subst (λ (o : Option ℕ). LinkedAt k old.base old.queue.items o) (sym none) shut)
               (λ j n. g.linked j);
-          told = sets-each
+          each_key = sets-each
               (λ (j : Row) (o : Option (Slot T)). Tallied r tells j o (rows_at live)) k
-              (Some empty) find (told k (rows_at live) no_rows) (λ j n. g.told j);
+              (Some empty) find (each_key k (rows_at live) no_rows) (λ j n. g.each_key j);
         } in
         good_find r tells no_key low now more (sets k (Some new_slot) with) after new.base
         new.queue.items (taken ++ s ∷ []) sent
@@ -133,7 +133,7 @@ module _ {T : Type 0} (r : KeyRule) (tells : Row → T → RowBags → Type 0) (
   leaves_absent find old s e = record {
     good = λ low live less taken sent key end upto adds g. absurd (
         let no_rows : NoneOfKey r.key k (rows_at live) =
-        subst (λ (o : Option (Slot T)). Tallied r tells k o (rows_at live)) e (g.told k) in
+        subst (λ (o : Option (Slot T)). Tallied r tells k o (rows_at live)) e (g.each_key k) in
         let a = no_rows s.0 s.1.tuple
         (subst (λ (j : Row). tuple_eq (r.key s.1.tuple) j ≡ true) key
         (self-key (r.key s.1.tuple))) in
@@ -160,11 +160,12 @@ module _ {T : Type 0} (r : KeyRule) (tells : Row → T → RowBags → Type 0) (
         subst (λ (o : Option (Slot T)). LinkedAt k base ps (place_in o)) e (g.linked k) in
         subst (λ (o : Option ℕ). LinkedAt k base ps o) none a)
         (λ j n. g.linked j);
-    told = sets-each (λ (j : Row) (o : Option (Slot T)). Tallied r tells j o (rows_at live)) k None
+    each_key = sets-each (λ (j : Row) (o : Option (Slot T)). Tallied r tells j o (rows_at live)) k
+        None
         find
         (gone k (rows_at live)
-        (subst (λ (o : Option (Slot T)). Tallied r tells k o (rows_at live)) e (g.told k)))
-        (λ j n. g.told j);
+        (subst (λ (o : Option (Slot T)). Tallied r tells k o (rows_at live)) e (g.each_key k)))
+        (λ j n. g.each_key j);
   }
 
 -- ---- time passes
@@ -196,7 +197,7 @@ module _ {T : Type 0} (r : KeyRule) (tells : Row → T → RowBags → Type 0) w
     order = g.order;
     upto = (let a = g.upto in omega (arith, a, h));
     linked = g.linked;
-    told = g.told;
+    each_key = g.each_key;
   }
 
 -- ---- the whole
@@ -354,13 +355,13 @@ pub reaches-elem : (now : ℕ) (sent : List Message) (e : Elem) → HasComeTo no
     → now ≤ e.span.start → IsInterval e.span.start e.span.end
     → HasComeTo e.span.start (sent ++ message.Elem e ∷ [])
 reaches-elem now sent e r h inside =
-    let behind : beat sent ≤ now = r.behind in
+    let at_most : beat sent ≤ now = r.at_most in
     let ran = run-push start_of_list sent (message.Elem e) in
     record {
       valid = valid-push start_of_list sent (message.Elem e) r.valid
-          (r.going, (let a : beat sent ≤ e.span.start = omega (arith, behind, h) in a), inside);
+          (r.going, (let a : beat sent ≤ e.span.start = omega (arith, at_most, h) in a), inside);
       going = ap (λ (p : Progress). p.ended) ran ∙ r.going;
-      behind = let same : beat (sent ++ message.Elem e ∷ []) ≡ e.span.start =
+      at_most = let same : beat (sent ++ message.Elem e ∷ []) ≡ e.span.start =
           ap (λ (p : Progress). p.beat) ran in omega (arith, same);
     }
 
@@ -369,7 +370,7 @@ pub reaches-later : (now then : ℕ) (sent : List Message) → now ≤ then → 
 reaches-later now then sent h r = record {
   valid = r.valid;
   going = r.going;
-  behind = let behind : beat sent ≤ now = r.behind in omega (arith, behind, h);
+  at_most = let at_most : beat sent ≤ now = r.at_most in omega (arith, at_most, h);
 }
 
 reaches-many : (n now : ℕ) (sent : List Message) (e : Elem) → HasComeTo now sent
@@ -455,7 +456,7 @@ module _ {T : Type 0} (r : KeyRule) (tells : Row → T → RowBags → Type 0) (
               upto = by.0;
               linked = λ k. linked-popped k base (piece.Closed e many) ps (place_in (find k)) tt
                   (g.linked k);
-              told = g.told;
+              each_key = g.each_key;
             }),
       )
   good_sent low (piece.Void b) ps sent s reaches g =
@@ -470,7 +471,7 @@ module _ {T : Type 0} (r : KeyRule) (tells : Row → T → RowBags → Type 0) (
               upto = g.upto;
               linked = λ k. linked-popped k base (piece.Void b) ps (place_in (find k)) tt
                   (g.linked k);
-              told = g.told;
+              each_key = g.each_key;
             }),
       )
 

@@ -1,6 +1,6 @@
 -- Elements to which others come.
 use Rattle.std.specs.Prelude.{ℕ, ◌≡◌, ◌+◌, List}
-use Rattle.pipes_timeline.specs.Weights.{weigh}
+use Rattle.pipes_stream.specs.Weights.{weigh}
 use Rattle.pipes_timeline.specs.Rules.{Arrival}
 
 -- one element came to the others

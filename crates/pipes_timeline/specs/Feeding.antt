@@ -2,7 +2,7 @@
 use Rattle.std.specs.Prelude.{ℕ, ◌≡◌, List}
 use Rattle.pipes_stream.specs.declared.Elem.{Elem}
 use Rattle.pipes_timeline.specs.declared.timeline.Timeline.{Timeline}
-use Rattle.pipes_timeline.specs.Weights.{weigh}
+use Rattle.pipes_stream.specs.Weights.{weigh}
 use Rattle.pipes_timeline.specs.Rules.{Row, RowBags, Arrival, KeyRule}
 use Rattle.pipes_timeline.specs.Lines.{ends_by}
 use Rattle.pipes_timeline.specs.Timelines.{Runs}

@@ -1,4 +1,3 @@
-pub mod Weights
 pub mod Rules
 pub mod Ends
 pub mod Filed
@@ -7,7 +6,6 @@ pub mod Queues
 pub mod Tables
 pub mod Reached
 pub mod Timelines
-pub mod WeightLaws
 pub mod LineMoves
 pub mod LineChanges
 pub mod LineOpens

@@ -8,9 +8,9 @@ use Rattle.pipes_tuple.specs.Equal.{tuple_eq}
 use Rattle.pipes_stream.specs.declared.Elem.{Elem}
 use Rattle.pipes_timeline.specs.declared.piece.Piece.{Piece}
 use Rattle.pipes_timeline.specs.declared.piece.Piece.TheVariants as piece
-use Rattle.pipes_timeline.specs.Weights.{weigh}
-use Rattle.pipes_timeline.specs.WeightLaws.{weigh-plus, weigh-le, weigh-same}
-use Rattle.pipes_timeline.specs.WeightLaws.{weigh-where, weigh-where_zero, weigh-set, weigh-member}
+use Rattle.pipes_stream.specs.Weights.{weigh}
+use Rattle.pipes_stream.proofs.Weights.{weigh-plus, weigh-le, weigh-same}
+use Rattle.pipes_stream.proofs.Weights.{weigh-where, weigh-where_zero, weigh-set, weigh-member}
 use Rattle.pipes_timeline.specs.Rules.{Row, Arrival, rows_at, SameOfKey}
 use Rattle.pipes_timeline.specs.Rules.{KeyRule}
 use Rattle.pipes_timeline.specs.Tables.{IsAnswer}

@@ -14,10 +14,10 @@ use Rattle.pipes_stream.specs.declared.Elem.{Elem}
 use Rattle.pipes_stream.specs.Snapshot.{is_held}
 use Rattle.pipes_timeline.specs.declared.piece.Piece.{Piece}
 use Rattle.pipes_timeline.specs.declared.piece.Piece.TheVariants as piece
-use Rattle.pipes_timeline.specs.Weights.{weigh}
-use Rattle.pipes_timeline.specs.WeightLaws.{weigh-plus}
-use Rattle.pipes_timeline.specs.WeightLaws.{weigh-where, weigh-where_zero}
-use Rattle.pipes_timeline.specs.WeightLaws.{weigh-filter, weigh-count, weigh-map}
+use Rattle.pipes_stream.specs.Weights.{weigh}
+use Rattle.pipes_stream.proofs.Weights.{weigh-plus}
+use Rattle.pipes_stream.proofs.Weights.{weigh-where, weigh-where_zero}
+use Rattle.pipes_stream.proofs.Weights.{weigh-filter, weigh-count, weigh-map}
 use Rattle.pipes_timeline.specs.Rules.{Row, Arrival, rows_at, valid_at, SameOfKey}
 use Rattle.pipes_timeline.specs.Rules.{row_of_key}
 use Rattle.pipes_timeline.specs.Rules.{KeyRule}

@@ -10,10 +10,10 @@ use Rattle.pipes_stream.specs.declared.Elem.{Elem}
 use Rattle.pipes_stream.specs.Snapshot.{is_held}
 use Rattle.pipes_timeline.specs.declared.piece.Piece.{Piece}
 use Rattle.pipes_timeline.specs.declared.piece.Piece.TheVariants as piece
-use Rattle.pipes_timeline.specs.Weights.{weigh}
-use Rattle.pipes_timeline.specs.WeightLaws.{weigh-append, weigh-plus, weigh-le}
-use Rattle.pipes_timeline.specs.WeightLaws.{weigh-where, weigh-where_zero, weigh-set, weigh-member}
-use Rattle.pipes_timeline.specs.WeightLaws.{weigh-filter}
+use Rattle.pipes_stream.specs.Weights.{weigh}
+use Rattle.pipes_stream.proofs.Weights.{weigh-append, weigh-plus, weigh-le}
+use Rattle.pipes_stream.proofs.Weights.{weigh-where, weigh-where_zero, weigh-set, weigh-member}
+use Rattle.pipes_stream.proofs.Weights.{weigh-filter}
 use Rattle.pipes_timeline.specs.Rules.{Row, Arrival, rows_at, valid_at}
 use Rattle.pipes_timeline.specs.Rules.{row_of_key}
 use Rattle.pipes_timeline.specs.Rules.{KeyRule}
@@ -87,7 +87,7 @@ living-more now live more taken s h inside w l =
           let c = lt-not 1000000000000000 s.1.span.end inside.1 in omega (arith, a, b, c));
     }
 
-not-held : (t : ℕ) (span : Span) → t < span.start → is_held span t ≡ false
+pub not-held : (t : ℕ) (span : Span) → t < span.start → is_held span t ≡ false
 not-held t span h = grind (arith, nat_tests)
 
 -- it is not valid before it starts

@@ -7,7 +7,7 @@ use Rattle.pipes_stream.specs.declared.Elem.{Elem}
 use Rattle.pipes_stream.specs.Snapshot.{is_held}
 use Rattle.pipes_timeline.specs.declared.piece.Piece.{Piece}
 use Rattle.pipes_timeline.specs.declared.piece.Piece.TheVariants as piece
-use Rattle.pipes_timeline.specs.Weights.{weigh}
+use Rattle.pipes_stream.specs.Weights.{weigh}
 use Rattle.pipes_timeline.specs.Rules.{Row, RowBags, Arrival, rows_at, valid_at, KeyRule}
 
 -- ---- tests of elements, as numbers

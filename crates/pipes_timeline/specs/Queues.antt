@@ -4,7 +4,7 @@ use Rattle.pipes_time.specs.Interval.{IsInterval}
 use Rattle.pipes_timeline.specs.declared.piece.Piece.{Piece}
 use Rattle.pipes_timeline.specs.declared.piece.Piece.TheVariants as piece
 use Rattle.pipes_timeline.specs.declared.pieces.Pieces.{Pieces}
-use Rattle.pipes_timeline.specs.Weights.{weigh}
+use Rattle.pipes_stream.specs.Weights.{weigh}
 use Rattle.pipes_timeline.specs.Rules.{Row}
 use Rattle.pipes_timeline.specs.Lines.{opens, start_at}
 

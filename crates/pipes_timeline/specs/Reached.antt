@@ -7,4 +7,4 @@ use Rattle.pipes_stream.specs.Lists.{run, start_of_list, Valid, beat}
 pub record HasComeTo (now : ℕ) (sent : List Message) : Type 0 where
   pub valid : Valid sent
   pub going : (run start_of_list sent).ended ≡ false
-  pub behind : beat sent ≤ now
+  pub at_most : beat sent ≤ now

@@ -7,7 +7,7 @@ use Rattle.pipes_tuple.specs.Equal.{tuple_eq}
 use Rattle.pipes_tuple.specs.Bag.{count}
 use Rattle.pipes_stream.specs.declared.Elem.{Elem}
 use Rattle.pipes_stream.specs.Snapshot.{is_held}
-use Rattle.pipes_timeline.specs.Weights.{weigh}
+use Rattle.pipes_stream.specs.Weights.{weigh}
 
 abbrev pub Row : Type 0
 Row = List Value

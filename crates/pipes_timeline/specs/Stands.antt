@@ -6,6 +6,7 @@ use Rattle.std.specs.List.{All, Contains, filter}
 use Rattle.std.proofs.lemmas.Bool.Decides.{nat_tests}
 use Rattle.std.proofs.lemmas.List.Elements.{All-nil, All-cons, All-head, All-tail}
 use Rattle.std.proofs.lemmas.List.Elements.{Contains-get_or, Contains-append_right}
+use Rattle.pipes_stream.proofs.Ports.{floor-below}
 use Rattle.indexmap.specs.IndexMap.{get}
 use Rattle.pipes_time.specs.Interval.{Span, closed, IsInterval}
 use Rattle.pipes_tuple.specs.Equal.{tuple_eq}
@@ -23,9 +24,9 @@ use Rattle.pipes_stream.specs.Lawful.{open_count}
 use Rattle.pipes_timeline.specs.declared.piece.Piece.{Piece}
 use Rattle.pipes_timeline.specs.declared.piece.Piece.TheVariants as piece
 use Rattle.pipes_timeline.specs.declared.timeline.Timeline.{Timeline}
-use Rattle.pipes_timeline.specs.Weights.{weigh}
-use Rattle.pipes_timeline.specs.WeightLaws.{weigh-where, weigh-filter}
-use Rattle.pipes_timeline.specs.WeightLaws.{weigh-count, weigh-map, weigh-length}
+use Rattle.pipes_stream.specs.Weights.{weigh}
+use Rattle.pipes_stream.proofs.Weights.{weigh-where, weigh-filter}
+use Rattle.pipes_stream.proofs.Weights.{weigh-count, weigh-map, weigh-length}
 use Rattle.pipes_timeline.specs.Rules.{Row, RowBags, Arrival, rows_at, valid_at, KeyRule}
 use Rattle.pipes_timeline.specs.Lines.{ends_after, ends_by, ends_before, copy_at}
 use Rattle.pipes_timeline.specs.Lines.{starts_early, spans_over, is_bare, piece_at}
@@ -83,11 +84,6 @@ pieces-before r bags x t low (piece.Void b ∷ ps) h o =
     let d = pieces-before r bags x t b ps (omega (arith, a, h)) o.2 in
     omega (arith, d)
 
--- ---- the heartbeat
-floor-upto : (h : ℕ) (es : List Elem) → floor h es ≤ h
-floor-upto h [] = omega arith
-floor-upto h (e ∷ es) = omega (arith, floor-upto h es)
-
 -- 1 for an element that starts early and reaches there
 abbrev reaches_from : ℕ → ℕ → Elem → ℕ
 reaches_from b h e = cond (nat_le e.span.start b) (cond (nat_le h e.span.end) 1 0) 0
@@ -130,7 +126,7 @@ reach-floor : (r : KeyRule) (now : ℕ) (live taken : List Arrival) (ps : List P
     → Living now live taken
     → ((f : Elem → ℕ) → weigh (λ (s : Arrival). f s.1) taken ≤ weigh f all)
     → (floor now all ≤ reach ps now) × (reach ps now ≤ now)
-reach-floor r now live taken [] all w z l among = (floor-upto now all, omega arith)
+reach-floor r now live taken [] all w z l among = (floor-below now all, omega arith)
 reach-floor r now live taken (piece.Closed e many ∷ ps) all w z l among = absurd w
 reach-floor r now live taken (piece.Void b ∷ ps) all w z l among = absurd w
 reach-floor r now live taken (piece.Open k b ∷ ps) all w z l among =

@@ -47,7 +47,7 @@ pub record Good {T : Type 0} (r : KeyRule) (tells : Row → T → RowBags → Ty
   pub order : InOrder low pieces
   pub upto : low ≤ now
   pub linked : (k : Row) → LinkedAt k base pieces (place_in (find k))
-  pub told : (k : Row) → Tallied r tells k (find k) (rows_at live)
+  pub each_key : (k : Row) → Tallied r tells k (find k) (rows_at live)
 
 -- ---- what the calls do
 module _ {T : Type 0} (r : KeyRule) (tells : Row → T → RowBags → Type 0) (now : ℕ) (k : Row)

@@ -16,4 +16,4 @@ pub use pieces::Pieces;
 pub use rule::Rule;
 pub use starts::Starts;
 pub use table::Slot;
-pub use timeline::{Timeline, tell};
+pub use timeline::Timeline;

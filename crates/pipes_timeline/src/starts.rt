@@ -1,7 +1,7 @@
 // Elements by the instants at which they start.
 ghost use Rattle.std.specs.Prelude.{◌≡◌, ◌≤◌, ◌<◌, ◌+◌, ◌∷◌, [], OnOk, MatchOption, length, ℕ};
 ghost use Rattle.std.specs.List.{All};
-ghost use Rattle.pipes_timeline.specs.Weights.{weigh};
+ghost use Rattle.pipes_stream.specs.Weights.{weigh};
 ghost use Rattle.pipes_timeline.specs.Ends.{AddsArrival};
 
 use pipes_stream::Elem;

@@ -7,7 +7,6 @@ ghost use Rattle.indexmap.specs.IndexMap.{get};
 ghost use Rattle.pipes_tuple.specs.Equal.{tuple_eq};
 ghost use Rattle.pipes_stream.specs.declared.message.Message.{Message as Sent};
 ghost use Rattle.pipes_stream.specs.declared.message.Message.TheVariants as sent;
-ghost use Rattle.pipes_sweep.specs.Sending.{progress_after};
 ghost use Rattle.pipes_timeline.specs.Rules.{Row, RowBags, NoneOfKey};
 ghost use Rattle.pipes_timeline.specs.Queues.{IsShut, FirstIsOpen};
 ghost use Rattle.pipes_timeline.specs.Timelines.{EntersAt, LeavesAt, Arrives};
@@ -280,18 +279,4 @@ impl<T: Drop, R: Rule<T> + Drop> Timeline<T, R> {
     {
         self.ends.len()
     }
-}
-
-/// Sends the end, or the heartbeat where it is higher than it was.
-pub fn tell(before: u64, now: u64, ended: bool, out: &mut Vec<Message>) -> Result<(), Memory>
-    ensures told { OnOk result (out.new.items ≡ out.old.items ++ progress_after before now ended) }
-    ensures grows { (more : List Sent) × (out.new.items ≡ out.old.items ++ more) }
-{
-    if ended {
-        return append(out, Message::End);
-    }
-    if before < now {
-        return append(out, Message::Beat(now));
-    }
-    Ok(())
 }

@@ -1,6 +1,7 @@
 -- Lists that are equal up to the order of their items.
-use Rattle.std.proofs.Common.{◌≡◌, ℕ, ◌+◌, Bool, true, false, cond, List, [], ◌∷◌, ◌++◌, map, refl}
-use Rattle.std.proofs.Common.{sym, ap, ◌∙◌, subst, arith, append_assoc, append-nil, count_by}
+use Rattle.std.proofs.Common.{◌≡◌, ℕ, suc, ◌+◌, Bool, true, false, cond, List, [], ◌∷◌, ◌++◌}
+use Rattle.std.proofs.Common.{map, length, refl, sym, ap, ◌∙◌, subst, arith, append_assoc}
+use Rattle.std.proofs.Common.{append-nil, count_by}
 use Rattle.std.specs.List.{filter, flat_map, sum_by}
 use Rattle.std.proofs.lemmas.List.Sums.{sum_by-cons}
 
@@ -59,6 +60,13 @@ module _ {X : Type 0} where
       (then (Perm-equal (sym (append_assoc b c d)))
       (then (Perm-right d (Perm-append_comm b c)) (Perm-equal (append_assoc c b d)))))
       (Perm-equal (sym (append_assoc a c (b ++ d)))))
+
+  -- the lengths are the same
+  pub length-Perm : {xs ys : List X} → Perm xs ys → length xs ≡ length ys
+  length-Perm none = refl
+  length-Perm (keep x p) = ap suc (length-Perm p)
+  length-Perm (swap x y xs) = refl
+  length-Perm (then p q) = length-Perm p ∙ length-Perm q
 
   -- a sum over the items is the same
   pub sum_by-Perm : (f : X → ℕ) {xs ys : List X} → Perm xs ys → sum_by f xs ≡ sum_by f ys

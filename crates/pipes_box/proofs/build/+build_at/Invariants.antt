@@ -13,3 +13,15 @@ decreases-build_map l = size-Plan l.plan.now + size-Plan l.plan.now
 
 abbrev pub decreases-build_union : goal.decreases-build_union
 decreases-build_union l = size-Plan l.plan.now + size-Plan l.plan.now
+
+abbrev pub decreases-build_join : goal.decreases-build_join
+decreases-build_join l = size-Plan l.plan.now + size-Plan l.plan.now
+
+abbrev pub decreases-build_distinct : goal.decreases-build_distinct
+decreases-build_distinct l = size-Plan l.plan.now + size-Plan l.plan.now
+
+abbrev pub decreases-build_group : goal.decreases-build_group
+decreases-build_group l = size-Plan l.plan.now + size-Plan l.plan.now
+
+abbrev pub decreases-build_minus : goal.decreases-build_minus
+decreases-build_minus l = size-Plan l.plan.now + size-Plan l.plan.now

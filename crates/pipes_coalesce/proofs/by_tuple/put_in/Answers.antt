@@ -7,7 +7,7 @@ use Rattle.indexmap.proofs.CallerLemmas.{insert_entry-new}
 use Rattle.pipes_tuple.specs.declared.value.Value.{Value}
 use Rattle.pipes_tuple.specs.Equal.{tuple_eq}
 use Rattle.pipes_stream.specs.declared.Elem.{Elem}
-use Rattle.pipes_coalesce.specs.Bags.{weigh}
+use Rattle.pipes_stream.specs.Weights.{weigh}
 use Rattle.pipes_coalesce.specs.Filed.{Entries, AreFiled, Added, contents, EntryAt}
 use Rattle.pipes_coalesce.proofs.Filing.{weaker, found-there, unfound, added-filed, added-weights}
 use Rattle.pipes_coalesce.proofs.by_tuple.put_in.Goals as goal

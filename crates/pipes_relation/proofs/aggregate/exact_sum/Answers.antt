@@ -7,6 +7,6 @@ pub loop-row-preserved : goal.loop-row-preserved
 loop-row-preserved c =
     let x : FitsSigned w64 c.int_at.result = search rules in
     sum_more c.args.column c.args.rows.now c.loop-row.row-index c.row-item.result _ _
-    c.int_at.result (omega arith) c.row-item.is c.loop-row.invariant c.int_at.ensures x
+    c.int_at.result (omega arith) c.row-item.is c.loop-row.invariant c.int_at.ensures.value x
     (added_is c.loop-row.row-index _ c.int_at.result c.from-sum.result (omega arith)
     c.loop-row.invariant.fits x c.from-sum.ensures)

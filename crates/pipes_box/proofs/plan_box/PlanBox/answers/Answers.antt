@@ -7,6 +7,6 @@ returns-clause-answer c = λ schemas plan given got s.
     box-answers c.args.self.now schemas plan given got c.requires s
 
 pub returns-clause-algebra : goal.returns-clause-algebra
-returns-clause-algebra c = λ schemas plan given got s built.
-    follows-plan schemas plan given got built (box-answers c.args.self.now schemas plan given got
+returns-clause-algebra c = λ schemas plan given got s.
+    follows-plan schemas plan given got (box-answers c.args.self.now schemas plan given got
     c.requires s)

@@ -4,8 +4,8 @@ use Rattle.std.proofs.lemmas.List.{map-append}
 use Rattle.pipes_stream.specs.declared.Elem.{Elem}
 use Rattle.pipes_stream.specs.declared.message.Message.{Message}
 use Rattle.pipes_stream.specs.declared.message.Message.TheVariants as message
-use Rattle.pipes_coalesce.specs.Bags.{weigh}
-use Rattle.pipes_coalesce.proofs.Weights.{weigh-append}
+use Rattle.pipes_stream.specs.Weights.{weigh}
+use Rattle.pipes_stream.proofs.Weights.{weigh-append}
 use Rattle.pipes_coalesce.proofs.by_tuple.ByTuple.send_all.Goals as goal
 
 pub loop-queue-preserved : goal.loop-queue-preserved

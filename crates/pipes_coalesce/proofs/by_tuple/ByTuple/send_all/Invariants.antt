@@ -1,7 +1,7 @@
 use Rattle.std.proofs.Common.{◌≡◌, ◌++◌, ◌+◌, ℕ, List, map, length}
 use Rattle.pipes_stream.specs.declared.Elem.{Elem}
 use Rattle.pipes_stream.specs.declared.message.Message.TheVariants as message
-use Rattle.pipes_coalesce.specs.Bags.{weigh}
+use Rattle.pipes_stream.specs.Weights.{weigh}
 use Rattle.pipes_coalesce.proofs.by_tuple.ByTuple.send_all.Given as goal
 
 abbrev pub invariant-loop-queue : goal.invariant-loop-queue

@@ -1,5 +1,5 @@
 use Rattle.std.proofs.Common.{◌≡◌, ℕ, ◌+◌, ◌-◌, ◌≤◌, length, arith}
-use Rattle.pipes_coalesce.specs.Bags.{weigh}
+use Rattle.pipes_stream.specs.Weights.{weigh}
 use Rattle.pipes_coalesce.specs.Filed.{contents}
 use Rattle.pipes_coalesce.proofs.Filing.{out-length}
 use Rattle.pipes_coalesce.proofs.by_tuple.ByTuple.take.Goals as goal

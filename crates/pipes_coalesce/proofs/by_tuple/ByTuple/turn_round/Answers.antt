@@ -1,5 +1,5 @@
 use Rattle.std.proofs.Common.{rules, ◌≡◌, ℕ, length, reverse, sym, subst, ap, ◌∙◌, arith}
-use Rattle.pipes_coalesce.specs.Bags.{weigh}
+use Rattle.pipes_stream.specs.Weights.{weigh}
 use Rattle.pipes_coalesce.specs.Filed.{Entries, AreFiled, contents}
 use Rattle.pipes_coalesce.proofs.Filing.{reverse-filed, reverse-weights, reverse-length}
 use Rattle.pipes_coalesce.proofs.by_tuple.ByTuple.turn_round.Goals as goal

@@ -1,10 +1,11 @@
 use Rattle.std.proofs.Common.{rules, refl}
-use Rattle.pipes_group.proofs.Moving.{on-ok, not-interval, renews-extended, renews-dropped}
+use Rattle.pipes_timeline.proofs.Calling.{from-ok}
+use Rattle.pipes_group.proofs.Moving.{not-interval, renews-extended, renews-dropped}
 use Rattle.pipes_group.proofs.coverage.Coverage.go_on.Goals as goal
 
 pub returns-in-Some-clause-renews : goal.returns-in-Some-clause-renews
 returns-in-Some-clause-renews c =
-    on-ok c.extend.result
+    from-ok c.extend.result
     (λ extends. renews-extended c.args.self.now c.extend.new.self c.args.tuple c.args.slot
     c.in-Some.span c.args.out.now.items c.extend.new.out.items c.requires
     c.in-Some.ensures.value (search rules) extends)

@@ -4,7 +4,7 @@ use Rattle.std.proofs.Common.{[], ◌∷◌, ◌++◌, map, length, Some, slice_
 use Rattle.std.proofs.Common.{refl, ap, ◌∙◌, arith}
 use Rattle.std.specs.List.{filter, count_by}
 use Rattle.std.proofs.lemmas.List.Sums.{sum_by-cons}
-use Rattle.pipes_timeline.specs.Weights.{weigh}
+use Rattle.pipes_stream.specs.Weights.{weigh}
 
 module _ {X : Type 0} where
   pub weigh-append : (f : X → ℕ) (xs ys : List X) → weigh f (xs ++ ys) ≡ weigh f xs + weigh f ys
@@ -23,9 +23,9 @@ module _ {X : Type 0} where
   weigh-same f g h [] = refl
   weigh-same f g h (x ∷ xs) = omega (arith, h x, weigh-same f g h xs)
 
-  pub weigh-none : (xs : List X) → weigh (λ x. 0) xs ≡ 0
-  weigh-none [] = refl
-  weigh-none (x ∷ xs) = omega (arith, weigh-none xs)
+  pub weigh-none : (f : X → ℕ) → ((x : X) → f x ≡ 0) → (xs : List X) → weigh f xs ≡ 0
+  weigh-none f h [] = refl
+  weigh-none f h (x ∷ xs) = omega (arith, h x, weigh-none f h xs)
 
   -- members of no weight in g weigh the same in f and in h
   pub weigh-where : (g f h : X → ℕ) → ((x : X) → g x ≡ 0 → f x ≡ h x) → (xs : List X)
@@ -38,7 +38,7 @@ module _ {X : Type 0} where
 
   pub weigh-where_zero : (g f : X → ℕ) → ((x : X) → g x ≡ 0 → f x ≡ 0) → (xs : List X)
       → weigh g xs ≡ 0 → weigh f xs ≡ 0
-  weigh-where_zero g f w xs z = weigh-where g f (λ x. 0) w xs z ∙ weigh-none xs
+  weigh-where_zero g f w xs z = weigh-where g f (λ x. 0) w xs z ∙ weigh-none (λ x. 0) (λ x. refl) xs
 
   -- one member is replaced by another
   pub weigh-set : (g : X → ℕ) (xs : List X) (i : ℕ) (p q : X) → slice_get xs i ≡ Some p
