@@ -4,4 +4,6 @@
 
 mod messages;
 
-pub use messages::{Cell, Said, Step, are_wanted, cells, message, row, schema, sent, steps_done};
+pub use messages::{
+    Cell, Said, Step, are_wanted, at_port, cells, message, row, schema, sent, steps_done,
+};

@@ -5,7 +5,7 @@ use pipes_tuple::{Kind, Schema, Text, Tuple, Value};
 use std::alloc::Global;
 use std::test::Fail;
 
-// A value.
+/// A value.
 #[derive(Clone, Copy)]
 pub enum Cell {
     Int(i64),
@@ -13,7 +13,7 @@ pub enum Cell {
     Flag(bool),
 }
 
-// An element of numbers, one of values, a heartbeat or the end.
+/// An element of numbers, one of values, a heartbeat or the end.
 #[derive(Clone, Copy)]
 pub enum Said<'a> {
     Numbers(&'a [i64], u64, u64),
@@ -22,8 +22,8 @@ pub enum Said<'a> {
     End,
 }
 
-// What is given at a port, what is sent then, and the heartbeat and the number of elements held
-// after it.
+/// What is given at a port, what is to be sent then, and the heartbeat and the number of elements
+/// held after it.
 #[derive(Clone, Copy)]
 pub struct Step<'a> {
     pub port: u32,
@@ -33,12 +33,30 @@ pub struct Step<'a> {
     pub held: u64,
 }
 
-// Numbers over an interval.
+/// What is given at a port, what is to be sent then, and the heartbeat and the number of elements
+/// held after it.
+pub fn at_port<'a>(
+    port: u32,
+    given: Said<'a>,
+    wanted: &'a [Said<'a>],
+    beat: u64,
+    held: u64,
+) -> Step<'a> {
+    Step {
+        port,
+        given,
+        wanted,
+        beat,
+        held,
+    }
+}
+
+/// Numbers over an interval.
 pub fn row(numbers: &[i64], start: u64, end: u64) -> Said<'_> {
     Said::Numbers(numbers, start, end)
 }
 
-// Values over an interval.
+/// Values over an interval.
 pub fn cells(values: &[Cell], start: u64, end: u64) -> Said<'_> {
     Said::Cells(values, start, end)
 }
@@ -73,6 +91,7 @@ fn of_cells(alloc: Global, cells: &[Cell]) -> Result<Vec<Value>, Fail> {
     Ok(values)
 }
 
+/// The message; it fails where its values are no tuple or its instants no interval.
 pub fn message(alloc: Global, said: &Said<'_>) -> Result<Message, Fail> {
     match said {
         Said::Numbers(numbers, start, end) => elem(of_numbers(alloc, numbers)?, *start, *end),
@@ -82,7 +101,7 @@ pub fn message(alloc: Global, said: &Said<'_>) -> Result<Message, Fail> {
     }
 }
 
-// Whether these messages were sent, in this order.
+/// Whether these messages were sent, in this order.
 pub fn are_wanted(alloc: Global, sent: &[Message], wanted: &[Said<'_>]) -> Result<bool, Fail> {
     if sent.len() != wanted.len() {
         return Ok(false);
@@ -95,7 +114,7 @@ pub fn are_wanted(alloc: Global, sent: &[Message], wanted: &[Said<'_>]) -> Resul
     Ok(true)
 }
 
-// What the operator sends for the message at the port, which it has.
+/// What the operator sends for the message at the port, which it has; it fails where it has not.
 pub fn sent<O: Operator>(
     alloc: Global,
     operator: &mut O,
@@ -118,7 +137,7 @@ fn does<O: Operator>(alloc: Global, operator: &mut O, step: &Step<'_>) -> Result
     are_wanted(alloc, out.as_slice(), step.wanted)
 }
 
-// How many of the steps are as wanted, up to the first that isn't.
+/// How many of the steps are as wanted, up to the first that isn't.
 pub fn steps_done<O: Operator>(
     alloc: Global,
     operator: &mut O,
@@ -134,7 +153,7 @@ pub fn steps_done<O: Operator>(
     Ok(done)
 }
 
-// A schema of these kinds.
+/// A schema of these kinds; it fails where there are too many.
 pub fn schema(alloc: Global, kinds: &[Kind]) -> Result<Schema, Fail> {
     Ok(Schema::new(Vec::from_slice(alloc, kinds)?).ok_or("no schema")?)
 }

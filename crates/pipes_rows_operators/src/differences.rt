@@ -1,6 +1,6 @@
 // Differences, message by message.
 use pipes_minus::Minus;
-use pipes_rows_kit::{Said, Step, schema, steps_done};
+use pipes_rows_kit::{Said, Step, at_port, schema, steps_done};
 use pipes_time::CLOSED;
 use pipes_tuple::Kind;
 use std::alloc::Global;
@@ -28,41 +28,11 @@ fn a_difference_is_by_counts(rt: HostRuntime) -> Result<(), Fail> {
     let twice = [row(1, 2, &SEVEN), row(1, 2, &SEVEN), Said::Beat(2)];
     let last = [row(2, 4, &SEVEN), Said::End];
     let steps = [
-        Step {
-            port: 0,
-            given: row(0, 4, &SEVEN),
-            wanted: &[],
-            beat: 0,
-            held: 1,
-        },
-        Step {
-            port: 0,
-            given: row(1, 5, &SEVEN),
-            wanted: &[],
-            beat: 0,
-            held: 2,
-        },
-        Step {
-            port: 1,
-            given: row(2, 6, &SEVEN),
-            wanted: &once,
-            beat: 1,
-            held: 3,
-        },
-        Step {
-            port: 0,
-            given: Said::End,
-            wanted: &twice,
-            beat: 2,
-            held: 3,
-        },
-        Step {
-            port: 1,
-            given: Said::End,
-            wanted: &last,
-            beat: CLOSED,
-            held: 0,
-        },
+        at_port(0, row(0, 4, &SEVEN), &[], 0, 1),
+        at_port(0, row(1, 5, &SEVEN), &[], 0, 2),
+        at_port(1, row(2, 6, &SEVEN), &once, 1, 3),
+        at_port(0, Said::End, &twice, 2, 3),
+        at_port(1, Said::End, &last, CLOSED, 0),
     ];
     assert_eq!(rt; done(rt.alloc(), &steps)?, 5);
     Ok(())
@@ -74,48 +44,12 @@ fn more_at_the_right_leave_nothing(rt: HostRuntime) -> Result<(), Fail> {
     let before = [row(0, 1, &THREE), Said::Beat(2)];
     let after = [row(2, 3, &FOUR), row(5, 9, &THREE), Said::End];
     let steps = [
-        Step {
-            port: 1,
-            given: row(1, 5, &THREE),
-            wanted: &[],
-            beat: 0,
-            held: 1,
-        },
-        Step {
-            port: 1,
-            given: row(1, 5, &THREE),
-            wanted: &[],
-            beat: 0,
-            held: 2,
-        },
-        Step {
-            port: 1,
-            given: Said::End,
-            wanted: &[],
-            beat: 0,
-            held: 2,
-        },
-        Step {
-            port: 0,
-            given: row(0, 9, &THREE),
-            wanted: &[],
-            beat: 0,
-            held: 3,
-        },
-        Step {
-            port: 0,
-            given: row(2, 3, &FOUR),
-            wanted: &before,
-            beat: 2,
-            held: 4,
-        },
-        Step {
-            port: 0,
-            given: Said::End,
-            wanted: &after,
-            beat: CLOSED,
-            held: 0,
-        },
+        at_port(1, row(1, 5, &THREE), &[], 0, 1),
+        at_port(1, row(1, 5, &THREE), &[], 0, 2),
+        at_port(1, Said::End, &[], 0, 2),
+        at_port(0, row(0, 9, &THREE), &[], 0, 3),
+        at_port(0, row(2, 3, &FOUR), &before, 2, 4),
+        at_port(0, Said::End, &after, CLOSED, 0),
     ];
     assert_eq!(rt; done(rt.alloc(), &steps)?, 6);
     Ok(())

@@ -1,6 +1,6 @@
 // Each row once, message by message.
 use pipes_group::Distinct;
-use pipes_rows_kit::{Said, Step, schema, steps_done};
+use pipes_rows_kit::{Said, at_port, schema, steps_done};
 use pipes_time::CLOSED;
 use pipes_tuple::Kind;
 use std::test::Fail;
@@ -18,56 +18,14 @@ fn a_distinct_goes_on_where_a_longer_element_ends(rt: HostRuntime) -> Result<(),
     let rest = [Said::Numbers(&ONE, 4, 7), Said::Beat(5)];
     let again = [Said::Numbers(&TWO, 6, 8)];
     let steps = [
-        Step {
-            port: 0,
-            given: first[0],
-            wanted: &first,
-            beat: 0,
-            held: 1,
-        },
+        at_port(0, first[0], &first, 0, 1),
         // a longer one, of which the part beyond is sent later, and a shorter one
-        Step {
-            port: 0,
-            given: Said::Numbers(&ONE, 2, 7),
-            wanted: &[Said::Beat(2)],
-            beat: 2,
-            held: 1,
-        },
-        Step {
-            port: 0,
-            given: Said::Numbers(&ONE, 3, 5),
-            wanted: &[Said::Beat(3)],
-            beat: 3,
-            held: 1,
-        },
-        Step {
-            port: 0,
-            given: other[0],
-            wanted: &other,
-            beat: 3,
-            held: 2,
-        },
-        Step {
-            port: 0,
-            given: Said::Beat(5),
-            wanted: &rest,
-            beat: 5,
-            held: 2,
-        },
-        Step {
-            port: 0,
-            given: again[0],
-            wanted: &again,
-            beat: 6,
-            held: 2,
-        },
-        Step {
-            port: 0,
-            given: Said::End,
-            wanted: &[Said::End],
-            beat: CLOSED,
-            held: 0,
-        },
+        at_port(0, Said::Numbers(&ONE, 2, 7), &[Said::Beat(2)], 2, 1),
+        at_port(0, Said::Numbers(&ONE, 3, 5), &[Said::Beat(3)], 3, 1),
+        at_port(0, other[0], &other, 3, 2),
+        at_port(0, Said::Beat(5), &rest, 5, 2),
+        at_port(0, again[0], &again, 6, 2),
+        at_port(0, Said::End, &[Said::End], CLOSED, 0),
     ];
     assert_eq!(rt; steps_done(alloc, &mut distinct, &steps)?, 7);
     Ok(())

@@ -6,7 +6,7 @@ ghost use Rattle.pipes_plan.specs.PlanKinds.{IsTyped};
 
 use pipes_flat::{Filter, Map, Union};
 use pipes_plan::{Expr, Exprs, Op, Plan, Schemas, copy_exprs};
-use pipes_rows_kit::{Said, Step, row, schema, steps_done};
+use pipes_rows_kit::{Said, at_port, row, schema, steps_done};
 use pipes_time::CLOSED;
 use pipes_tuple::{Kind, Schema, Value};
 use sqlite_items::Boxed;
@@ -104,27 +104,9 @@ fn a_filter_sends_heartbeats_for_what_fails(rt: HostRuntime) -> Result<(), Fail>
     let alloc = rt.alloc();
     let passes = [row(&[2], 3, 9)];
     let steps = [
-        Step {
-            port: 0,
-            given: passes[0],
-            wanted: &passes,
-            beat: 3,
-            held: 0,
-        },
-        Step {
-            port: 0,
-            given: row(&[1], 4, 9),
-            wanted: &[Said::Beat(4)],
-            beat: 4,
-            held: 0,
-        },
-        Step {
-            port: 0,
-            given: Said::End,
-            wanted: &[Said::End],
-            beat: CLOSED,
-            held: 0,
-        },
+        at_port(0, passes[0], &passes, 3, 0),
+        at_port(0, row(&[1], 4, 9), &[Said::Beat(4)], 4, 0),
+        at_port(0, Said::End, &[Said::End], CLOSED, 0),
     ];
     assert_eq!(rt; steps_done(alloc, &mut filter(alloc)?, &steps)?, 3);
     Ok(())
@@ -135,20 +117,8 @@ fn a_map_keeps_intervals(rt: HostRuntime) -> Result<(), Fail> {
     let alloc = rt.alloc();
     let changed = [row(&[3], 3, 9)];
     let steps = [
-        Step {
-            port: 0,
-            given: row(&[2], 3, 9),
-            wanted: &changed,
-            beat: 3,
-            held: 0,
-        },
-        Step {
-            port: 0,
-            given: Said::Beat(7),
-            wanted: &[Said::Beat(7)],
-            beat: 7,
-            held: 0,
-        },
+        at_port(0, row(&[2], 3, 9), &changed, 3, 0),
+        at_port(0, Said::Beat(7), &[Said::Beat(7)], 7, 0),
     ];
     assert_eq!(rt; steps_done(alloc, &mut map(alloc)?, &steps)?, 2);
     Ok(())
@@ -160,34 +130,10 @@ fn a_union_waits_for_the_other_port(rt: HostRuntime) -> Result<(), Fail> {
     let other = [row(&[2], 2, 4), Said::Beat(2)];
     let waited = [row(&[1], 3, 9), Said::Beat(3)];
     let steps = [
-        Step {
-            port: 0,
-            given: waited[0],
-            wanted: &[],
-            beat: 0,
-            held: 1,
-        },
-        Step {
-            port: 1,
-            given: other[0],
-            wanted: &other,
-            beat: 2,
-            held: 1,
-        },
-        Step {
-            port: 1,
-            given: Said::End,
-            wanted: &waited,
-            beat: 3,
-            held: 0,
-        },
-        Step {
-            port: 0,
-            given: Said::End,
-            wanted: &[Said::End],
-            beat: CLOSED,
-            held: 0,
-        },
+        at_port(0, waited[0], &[], 0, 1),
+        at_port(1, other[0], &other, 2, 1),
+        at_port(1, Said::End, &waited, 3, 0),
+        at_port(0, Said::End, &[Said::End], CLOSED, 0),
     ];
     assert_eq!(rt; steps_done(alloc, &mut union(alloc)?, &steps)?, 4);
     Ok(())

@@ -7,7 +7,7 @@ ghost use Rattle.pipes_plan.specs.PlanKinds.{IsTyped};
 use pipes_group::Group;
 use pipes_plan::{Plan, Schemas};
 use pipes_relation::{Agg, Aggs};
-use pipes_rows_kit::{Cell, Said, Step, cells, message, row, schema, steps_done};
+use pipes_rows_kit::{Cell, Said, Step, at_port, cells, message, row, schema, steps_done};
 use pipes_stream::Operator;
 use pipes_time::CLOSED;
 use pipes_tuple::{Cols, Kind, Schema};
@@ -58,42 +58,12 @@ fn a_group_has_a_piece_between_two_changes(rt: HostRuntime) -> Result<(), Fail> 
     let second = [row(&[1, 1, 7], 4, 6), Said::Beat(6)];
     let last = [row(&[1, 1, 9], 6, 8), Said::End];
     let steps = [
-        Step {
-            port: 0,
-            given: row(&[1, 5], 0, 4),
-            wanted: &[],
-            beat: 0,
-            held: 1,
-        },
-        Step {
-            port: 0,
-            given: row(&[1, 7], 2, 6),
-            wanted: &first,
-            beat: 2,
-            held: 2,
-        },
-        Step {
-            port: 0,
-            given: Said::Beat(4),
-            wanted: &both,
-            beat: 4,
-            held: 1,
-        },
+        at_port(0, row(&[1, 5], 0, 4), &[], 0, 1),
+        at_port(0, row(&[1, 7], 2, 6), &first, 2, 2),
+        at_port(0, Said::Beat(4), &both, 4, 1),
         // one that starts where the other ends
-        Step {
-            port: 0,
-            given: row(&[1, 9], 6, 8),
-            wanted: &second,
-            beat: 6,
-            held: 1,
-        },
-        Step {
-            port: 0,
-            given: Said::End,
-            wanted: &last,
-            beat: CLOSED,
-            held: 0,
-        },
+        at_port(0, row(&[1, 9], 6, 8), &second, 6, 1),
+        at_port(0, Said::End, &last, CLOSED, 0),
     ];
     assert_eq!(rt; done(rt.alloc(), &steps)?, 5);
     Ok(())
@@ -103,35 +73,11 @@ fn a_group_has_a_piece_between_two_changes(rt: HostRuntime) -> Result<(), Fail> 
 fn pieces_go_out_in_the_order_of_their_starts(rt: HostRuntime) -> Result<(), Fail> {
     let all = [row(&[1, 1, 5], 0, 9), row(&[2, 1, 6], 1, 3), Said::End];
     let steps = [
-        Step {
-            port: 0,
-            given: row(&[1, 5], 0, 9),
-            wanted: &[],
-            beat: 0,
-            held: 1,
-        },
-        Step {
-            port: 0,
-            given: row(&[2, 6], 1, 3),
-            wanted: &[],
-            beat: 0,
-            held: 2,
-        },
+        at_port(0, row(&[1, 5], 0, 9), &[], 0, 1),
+        at_port(0, row(&[2, 6], 1, 3), &[], 0, 2),
         // the piece of key 2 has ended, and waits for that of key 1, which started before
-        Step {
-            port: 0,
-            given: Said::Beat(5),
-            wanted: &[],
-            beat: 0,
-            held: 1,
-        },
-        Step {
-            port: 0,
-            given: Said::End,
-            wanted: &all,
-            beat: CLOSED,
-            held: 0,
-        },
+        at_port(0, Said::Beat(5), &[], 0, 1),
+        at_port(0, Said::End, &all, CLOSED, 0),
     ];
     assert_eq!(rt; done(rt.alloc(), &steps)?, 4);
     Ok(())
@@ -158,25 +104,13 @@ fn is_right(alloc: Global, case: &Case<'_>) -> Result<bool, Fail> {
     for number in case.numbers {
         held = held.saturating_add(1);
         let given = Said::Numbers(slice::from_ref(number), 0, 4);
-        let step = Step {
-            port: 0,
-            given,
-            wanted: &[],
-            beat: 0,
-            held,
-        };
+        let step = at_port(0, given, &[], 0, held);
         if steps_done(alloc, &mut group, &[step])? != 1 {
             return Ok(false);
         }
     }
     let wanted = [Said::Numbers(&case.wanted, 0, 4), Said::End];
-    let end = Step {
-        port: 0,
-        given: Said::End,
-        wanted: &wanted,
-        beat: CLOSED,
-        held: 0,
-    };
+    let end = at_port(0, Said::End, &wanted, CLOSED, 0);
     Ok(steps_done(alloc, &mut group, &[end])? == 1)
 }
 
@@ -242,27 +176,9 @@ fn the_least_and_greatest_go_with_their_rows(rt: HostRuntime) -> Result<(), Fail
     let mut group = group_of(alloc, &[], &aggs, &[Kind::Text, Kind::Flag])?;
     let all = [cells(&BOTH, 0, 2), cells(&ONE, 2, 3), Said::End];
     let steps = [
-        Step {
-            port: 0,
-            given: cells(&STAYS, 0, 3),
-            wanted: &[],
-            beat: 0,
-            held: 1,
-        },
-        Step {
-            port: 0,
-            given: cells(&GOES, 0, 2),
-            wanted: &[],
-            beat: 0,
-            held: 2,
-        },
-        Step {
-            port: 0,
-            given: Said::End,
-            wanted: &all,
-            beat: CLOSED,
-            held: 0,
-        },
+        at_port(0, cells(&STAYS, 0, 3), &[], 0, 1),
+        at_port(0, cells(&GOES, 0, 2), &[], 0, 2),
+        at_port(0, Said::End, &all, CLOSED, 0),
     ];
     assert_eq!(rt; steps_done(alloc, &mut group, &steps)?, 3);
     Ok(())

@@ -6,7 +6,7 @@ ghost use Rattle.pipes_plan.specs.PlanKinds.{IsTyped};
 
 use pipes_pair::Join;
 use pipes_plan::{Expr, Op, Pair, Pairs, Plan, Schemas};
-use pipes_rows_kit::{Cell, Said, Step, cells, message, row, schema, sent, steps_done};
+use pipes_rows_kit::{Cell, Said, Step, at_port, cells, message, row, schema, sent, steps_done};
 use pipes_stream::Message;
 use pipes_time::CLOSED;
 use pipes_tuple::{Kind, Schema, Value};
@@ -92,46 +92,23 @@ fn done(alloc: Global, steps: &[Step<'_>]) -> Result<usize, Fail> {
     steps_done(alloc, &mut join, steps)
 }
 
-// An element that is kept, and nothing is sent.
-fn keeps<'a>(port: u32, given: Said<'a>, held: u64) -> Step<'a> {
-    Step {
-        port,
-        given,
-        wanted: &[],
-        beat: 0,
-        held,
-    }
-}
-
-// The steps that are done where these come first, and then a heartbeat at the left and both ends.
-fn done_after(alloc: Global, first: &[Step<'_>]) -> Result<usize, Fail> {
-    let mut join = by_first(alloc, &[Kind::Int, Kind::Int])?;
+// The steps that are done of a heartbeat at the left and both ends, where one pair is due.
+fn last_done(alloc: Global, join: &mut Join) -> Result<usize, Fail> {
     let pair = [row(&[7, 1, 7, 4], 2, 5), Said::Beat(2)];
     let last = [
-        Step {
-            port: LEFT,
-            given: Said::Beat(3),
-            wanted: &pair,
-            beat: 2,
-            held: 2,
-        },
-        Step {
-            port: LEFT,
-            given: Said::End,
-            wanted: &[],
-            beat: 2,
-            held: 1,
-        },
-        Step {
-            port: RIGHT,
-            given: Said::End,
-            wanted: &[Said::End],
-            beat: CLOSED,
-            held: 0,
-        },
+        at_port(LEFT, Said::Beat(3), &pair, 2, 2),
+        at_port(LEFT, Said::End, &[], 2, 1),
+        at_port(RIGHT, Said::End, &[Said::End], CLOSED, 0),
     ];
+    steps_done(alloc, join, &last)
+}
+
+// The steps that are done where these come first, and then those.
+fn done_after(alloc: Global, first: &[Step<'_>]) -> Result<usize, Fail> {
+    let mut join = by_first(alloc, &[Kind::Int, Kind::Int])?;
     let begun = steps_done(alloc, &mut join, first)?;
-    Ok(begun.saturating_add(steps_done(alloc, &mut join, &last)?))
+    let last = last_done(alloc, &mut join)?;
+    Ok(begun.saturating_add(last))
 }
 
 #[test]
@@ -139,8 +116,14 @@ fn a_pair_is_sent_in_either_order_of_its_sides(rt: HostRuntime) -> Result<(), Fa
     let alloc = rt.alloc();
     let left = row(&[7, 1], 0, 5);
     let right = row(&[7, 4], 2, 9);
-    let left_first = [keeps(LEFT, left, 1), keeps(RIGHT, right, 2)];
-    let right_first = [keeps(RIGHT, right, 1), keeps(LEFT, left, 2)];
+    let left_first = [
+        at_port(LEFT, left, &[], 0, 1),
+        at_port(RIGHT, right, &[], 0, 2),
+    ];
+    let right_first = [
+        at_port(RIGHT, right, &[], 0, 1),
+        at_port(LEFT, left, &[], 0, 2),
+    ];
     assert_eq!(rt; done_after(alloc, &left_first)?, 5);
     assert_eq!(rt; done_after(alloc, &right_first)?, 5);
     Ok(())
@@ -150,50 +133,14 @@ fn a_pair_is_sent_in_either_order_of_its_sides(rt: HostRuntime) -> Result<(), Fa
 fn rows_of_one_key_are_joined_while_both_are_valid(rt: HostRuntime) -> Result<(), Fail> {
     let pair = [row(&[7, 2, 7, 4], 5, 7), Said::Beat(5)];
     let steps = [
-        Step {
-            port: LEFT,
-            given: row(&[7, 1], 0, 5),
-            wanted: &[],
-            beat: 0,
-            held: 1,
-        },
-        Step {
-            port: LEFT,
-            given: row(&[7, 2], 1, 9),
-            wanted: &[],
-            beat: 0,
-            held: 2,
-        },
+        at_port(LEFT, row(&[7, 1], 0, 5), &[], 0, 1),
+        at_port(LEFT, row(&[7, 2], 1, 9), &[], 0, 2),
         // another key
-        Step {
-            port: RIGHT,
-            given: row(&[8, 3], 2, 6),
-            wanted: &[Said::Beat(1)],
-            beat: 1,
-            held: 3,
-        },
+        at_port(RIGHT, row(&[8, 3], 2, 6), &[Said::Beat(1)], 1, 3),
         // its span only touches that of the first, which is not kept: the right side is at 5
-        Step {
-            port: RIGHT,
-            given: row(&[7, 4], 5, 7),
-            wanted: &[],
-            beat: 1,
-            held: 3,
-        },
-        Step {
-            port: LEFT,
-            given: Said::End,
-            wanted: &pair,
-            beat: 5,
-            held: 1,
-        },
-        Step {
-            port: RIGHT,
-            given: Said::End,
-            wanted: &[Said::End],
-            beat: CLOSED,
-            held: 0,
-        },
+        at_port(RIGHT, row(&[7, 4], 5, 7), &[], 1, 3),
+        at_port(LEFT, Said::End, &pair, 5, 1),
+        at_port(RIGHT, Said::End, &[Said::End], CLOSED, 0),
     ];
     assert_eq!(rt; done(rt.alloc(), &steps)?, 6);
     Ok(())
@@ -212,13 +159,7 @@ fn of_one_key(alloc: Global) -> Result<Join, Fail> {
     let mut held = 0_u64;
     for (port, given) in &given {
         held = held.saturating_add(1);
-        let step = Step {
-            port: *port,
-            given: *given,
-            wanted: &[],
-            beat: 0,
-            held,
-        };
+        let step = at_port(*port, *given, &[], 0, held);
         if steps_done(alloc, &mut join, &[step])? != 1 {
             return Ok(Err("not as wanted")?);
         }
@@ -249,13 +190,7 @@ fn each_element_of_a_key_meets_each_of_the_other_side(rt: HostRuntime) -> Result
         assert_eq!(rt; times(alloc, sent.as_slice(), said)?, *wanted);
     }
     assert_eq!(rt; sent.len(), 7);
-    let end = Step {
-        port: RIGHT,
-        given: Said::End,
-        wanted: &[Said::End],
-        beat: CLOSED,
-        held: 0,
-    };
+    let end = at_port(RIGHT, Said::End, &[Said::End], CLOSED, 0);
     assert_eq!(rt; steps_done(alloc, &mut join, &[end])?, 1);
     Ok(())
 }
@@ -266,42 +201,12 @@ fn all_rows_meet_without_pairs_where_the_condition_holds(rt: HostRuntime) -> Res
     let mut join = by_second(alloc)?;
     let pair = [row(&[5, 6, 1, 9], 4, 6), Said::Beat(4)];
     let steps = [
-        Step {
-            port: RIGHT,
-            given: row(&[1, 2], 3, 6),
-            wanted: &[],
-            beat: 0,
-            held: 1,
-        },
-        Step {
-            port: RIGHT,
-            given: row(&[1, 9], 3, 6),
-            wanted: &[],
-            beat: 0,
-            held: 2,
-        },
-        Step {
-            port: RIGHT,
-            given: Said::End,
-            wanted: &[],
-            beat: 0,
-            held: 2,
-        },
+        at_port(RIGHT, row(&[1, 2], 3, 6), &[], 0, 1),
+        at_port(RIGHT, row(&[1, 9], 3, 6), &[], 0, 2),
+        at_port(RIGHT, Said::End, &[], 0, 2),
         // it is not kept: no other comes at the right
-        Step {
-            port: LEFT,
-            given: row(&[5, 6], 4, 9),
-            wanted: &pair,
-            beat: 4,
-            held: 2,
-        },
-        Step {
-            port: LEFT,
-            given: Said::End,
-            wanted: &[Said::End],
-            beat: CLOSED,
-            held: 0,
-        },
+        at_port(LEFT, row(&[5, 6], 4, 9), &pair, 4, 2),
+        at_port(LEFT, Said::End, &[Said::End], CLOSED, 0),
     ];
     assert_eq!(rt; steps_done(alloc, &mut join, &steps)?, 5);
     Ok(())
@@ -319,41 +224,11 @@ fn texts_are_joined_by_their_characters(rt: HostRuntime) -> Result<(), Fail> {
     let mut join = by_first(alloc, &[Kind::Text])?;
     let pair = [cells(&LONG_TWICE, 2, 9), Said::Beat(2)];
     let steps = [
-        Step {
-            port: LEFT,
-            given: cells(&LONG, 0, 9),
-            wanted: &[],
-            beat: 0,
-            held: 1,
-        },
-        Step {
-            port: LEFT,
-            given: cells(&SHORT, 0, 9),
-            wanted: &[],
-            beat: 0,
-            held: 2,
-        },
-        Step {
-            port: RIGHT,
-            given: cells(&LONG, 2, 9),
-            wanted: &[],
-            beat: 0,
-            held: 3,
-        },
-        Step {
-            port: LEFT,
-            given: Said::End,
-            wanted: &pair,
-            beat: 2,
-            held: 2,
-        },
-        Step {
-            port: RIGHT,
-            given: Said::End,
-            wanted: &[Said::End],
-            beat: CLOSED,
-            held: 0,
-        },
+        at_port(LEFT, cells(&LONG, 0, 9), &[], 0, 1),
+        at_port(LEFT, cells(&SHORT, 0, 9), &[], 0, 2),
+        at_port(RIGHT, cells(&LONG, 2, 9), &[], 0, 3),
+        at_port(LEFT, Said::End, &pair, 2, 2),
+        at_port(RIGHT, Said::End, &[Said::End], CLOSED, 0),
     ];
     assert_eq!(rt; steps_done(alloc, &mut join, &steps)?, 5);
     Ok(())
