@@ -16,7 +16,8 @@ use Rattle.pipes_plan.specs.PlanKinds.{BagsFit}
 use Rattle.pipes_edge.specs.Outside.{Names, NoneFalls}
 use Rattle.pipes_query.specs.declared.query.SourceDecl.{SourceDecl}
 use Rattle.pipes_semantics.specs.Answer.{bags_at}
-use Rattle.pipes_error.specs.Fault.{Fault, Words, QueryText, QueryType, Unbuilt, Missing, ReadFile}
+use Rattle.pipes_error.specs.Fault.{Fault, Words, QueryText, QueryType, DerivationText, Unbuilt}
+use Rattle.pipes_error.specs.Fault.{Missing, ReadFile}
 use Rattle.pipes_error.specs.Fault.{ReadSource, Row, Limit, Write, Memory}
 use Rattle.pipes_answer.specs.Gives.{HasAnswerCause, Refuses}
 use Rattle.pipes_time.specs.Results.{◌>>=◌}
@@ -121,6 +122,7 @@ pub cause-later : (fault : Fault) (before mid now : List ℕ → ℕ) → NoneFa
 cause-later Words before mid now later rose = tt
 cause-later (QueryText refusal) before mid now later rose = tt
 cause-later (QueryType refusal) before mid now later rose = tt
+cause-later (DerivationText file refusal) before mid now later rose = tt
 cause-later Unbuilt before mid now later rose = tt
 cause-later (Missing name) before mid now later rose = tt
 cause-later (ReadFile name) before mid now later rose = omega (arith, later name, rose)
@@ -146,6 +148,7 @@ refused-at files ss i s items fault within is all = by fault
     by Words h = refused Words h
     by (QueryText refusal) h = refused (QueryText refusal) h
     by (QueryType refusal) h = refused (QueryType refusal) h
+    by (DerivationText file refusal) h = refused (DerivationText file refusal) h
     by Unbuilt h = refused Unbuilt h
     by (Missing name) h = refused (Missing name) h
     by (ReadFile name) h = tt

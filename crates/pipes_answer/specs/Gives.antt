@@ -3,7 +3,8 @@ use Rattle.std.specs.Prelude.{◌≡◌, ℕ, List, Option, Some, None, Result, 
 use Rattle.pipes_edge.specs.Causes.{Rose}
 use Rattle.pipes_feed.specs.declared.reason.Reason.{Reason}
 use Rattle.pipes_feed.specs.declared.reason.Reason.TheVariants as reason
-use Rattle.pipes_error.specs.Fault.{Fault, Words, QueryText, QueryType, Unbuilt, Missing, ReadFile}
+use Rattle.pipes_error.specs.Fault.{Fault, Words, QueryText, QueryType, DerivationText, Unbuilt}
+use Rattle.pipes_error.specs.Fault.{Missing, ReadFile}
 use Rattle.pipes_error.specs.Fault.{ReadSource, Row, Limit, Write, Memory}
 use Rattle.pipes_answer.specs.declared.source.SourceFault.{SourceFault}
 use Rattle.pipes_answer.specs.declared.source.SourceFault.TheVariants as source
@@ -13,6 +14,7 @@ abbrev pub IsOfReading : Fault → Type 0
 IsOfReading Words = ⊥
 IsOfReading (QueryText refusal) = ⊥
 IsOfReading (QueryType refusal) = ⊥
+IsOfReading (DerivationText file refusal) = ⊥
 IsOfReading Unbuilt = ⊥
 IsOfReading (Missing name) = ⊤
 IsOfReading (ReadFile name) = ⊤

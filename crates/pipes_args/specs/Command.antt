@@ -13,11 +13,13 @@ use Rattle.pipes_args.specs.declared.Command.{Command as Read}
 use Rattle.pipes_args.specs.declared.Command.TheVariants as read
 
 -- a run, with the names of its query and its script and the form of what it writes; an answer, with
--- the name of its query and its instant; or a check of the query with this name
+-- the name of its query and its instant; a check of the query with this name; or a derivation from
+-- the plan of the query, with the names of both
 pub data Command : Type 0 where
   Run : List ℕ → List ℕ → Form → Command
   At : List ℕ → ℕ → Command
   Check : List ℕ → Command
+  Derive : List ℕ → List ℕ → Command
 
 -- a positional word is not empty and begins with no dash
 abbrev pub is_positional : List ℕ → Bool
@@ -40,15 +42,21 @@ run_of query script form = if is_positional query && is_positional script then S
 abbrev pub at_of : List ℕ → List ℕ → Option Command
 at_of query time = if is_positional query then option_map (At query) (instant_of time) else None
 
+abbrev pub derive_of : List ℕ → List ℕ → Option Command
+derive_of query derivation = if is_positional query && is_positional derivation then Some
+    (Derive query derivation) else None
+
 -- `check QUERY`
 abbrev pub two_words : List ℕ → List ℕ → Option Command
 two_words name query = if bytes_eq name (codes "check") && is_positional query then Some
     (Check query) else None
 
--- `run QUERY SCRIPT`, whose form is that of the stream, or `at QUERY TIME`
+-- `run QUERY SCRIPT`, whose form is that of the stream, `at QUERY TIME`, or `derive QUERY
+-- DERIVATION`
 abbrev pub three_words : List ℕ → List ℕ → List ℕ → Option Command
 three_words name query other = if bytes_eq name (codes "run") then run_of query other Stream else if
-    bytes_eq name (codes "at") then at_of query other else None
+    bytes_eq name (codes "at") then at_of query other else if bytes_eq name (codes "derive") then
+    derive_of query other else None
 
 -- `run QUERY SCRIPT --form FORM`
 abbrev pub five_words : List ℕ → List ℕ → List ℕ → List ℕ → List ℕ → Option Command
@@ -66,3 +74,4 @@ abbrev pub command_seen : Read → Command
 command_seen (read.Run query script form) = Run query.now script.now form
 command_seen (read.At query time) = At query.now time
 command_seen (read.Check query) = Check query.now
+command_seen (read.Derive query derivation) = Derive query.now derivation.now

@@ -5,8 +5,8 @@ ghost use Rattle.std.specs.Prelude.{◌≡◌, map, string_bytes, option_map};
 ghost use Rattle.std.specs.Char.{is_ascii_digit};
 ghost use Rattle.std.specs.List.{list_all};
 ghost use Rattle.pipes_args.specs.Command.{command_of, command_seen, two_words, three_words};
-ghost use Rattle.pipes_args.specs.Command.{five_words, run_of, at_of, form_named, instant_of};
-ghost use Rattle.pipes_args.specs.Command.{is_positional};
+ghost use Rattle.pipes_args.specs.Command.{five_words, run_of, at_of, derive_of, form_named};
+ghost use Rattle.pipes_args.specs.Command.{instant_of, is_positional};
 
 use pipes_output::Form;
 use pipes_time::HORIZON;
@@ -35,11 +35,18 @@ pub enum Command<'w> {
         /// The query's file.
         query: &'w str,
     },
+    /// A derivation from the plan of a query.
+    Derive {
+        /// The query's file.
+        query: &'w str,
+        /// The derivation's file.
+        derivation: &'w str,
+    },
 }
 
 /// The command, where the words are one: `run QUERY SCRIPT` with perhaps `--form stream` or `--form
-/// normal` after it, `at QUERY TIME`, or `check QUERY`. A positional word is not empty and begins
-/// with no dash; TIME is one or more digits, leading zeros allowed.
+/// normal` after it, `at QUERY TIME`, `check QUERY`, or `derive QUERY DERIVATION`. A positional
+/// word is not empty and begins with no dash; TIME is one or more digits, leading zeros allowed.
 pub fn command_in(words: &[String]) -> Option<Command<'_>>
     ensures { option_map command_seen result ≡ command_of (map string_bytes words.now) }
 {
@@ -74,6 +81,8 @@ fn three_words<'w>(name: &str, query: &'w str, other: &'w str) -> Option<Command
         run(query, other, Form::Stream)
     } else if name == "at" {
         at(query, other)
+    } else if name == "derive" {
+        derive(query, other)
     } else {
         None
     }
@@ -117,6 +126,16 @@ fn at<'w>(query: &'w str, time: &str) -> Option<Command<'w>>
     if is_positional(query) {
         let time = instant(time)?;
         Some(Command::At { query, time })
+    } else {
+        None
+    }
+}
+
+fn derive<'w>(query: &'w str, derivation: &'w str) -> Option<Command<'w>>
+    ensures { option_map command_seen result ≡ derive_of query.now derivation.now }
+{
+    if is_positional(query) && is_positional(derivation) {
+        Some(Command::Derive { query, derivation })
     } else {
         None
     }

@@ -16,10 +16,10 @@ use Rattle.pipes_link.specs.Ends.{sent, taken, known}
 use Rattle.pipes_plan.specs.declared.plan.Plan.{Plan}
 use Rattle.pipes_plan.specs.Sizes.{plan_nodes}
 use Rattle.pipes_box.specs.declared.leaf.Leaf.{Leaf as PlanLeaf}
-use Rattle.pipes_box.specs.declared.node.Node.{Node}
+use Rattle.pipes_node.specs.declared.node.Node.{Node}
 use Rattle.pipes_box.specs.declared.plan_box.PlanBox.{PlanBox}
 use Rattle.pipes_box.specs.declared.build.Part.{Part}
-use Rattle.pipes_box.specs.Nodes.{NodeStands}
+use Rattle.pipes_node.specs.Nodes.{NodeStands}
 use Rattle.pipes_box.specs.Shapes.{Shape, Leaf, One, Two, shape_of, node_count, leaf_count}
 use Rattle.pipes_box.specs.Shapes.{GivenFits, Answers, IsProper}
 use Rattle.pipes_box.specs.Networks.{EndsHold, IsLinked, IsWired, LeavesGave, leaves_of, root_of}
@@ -27,7 +27,7 @@ use Rattle.pipes_box.specs.Parts.{IsNew, PartHolds, PartBuilt}
 use Rattle.pipes_box.specs.Boxes.{IsSound, BoxStands}
 use Rattle.pipes_box.proofs.Answering.{answers-prefix}
 use Rattle.pipes_box.proofs.Network.{network}
-use Rattle.pipes_box.proofs.Stood.{stands-holds}
+use Rattle.pipes_node.proofs.Stood.{stands-holds}
 use Rattle.pipes_box.proofs.Built.{get-before, no-length}
 
 pub some-node : (ns : List Node) → 0 < length ns → Node

@@ -11,21 +11,21 @@ use Rattle.pipes_stream.specs.Lawful.{Lists, Task, no_messages}
 use Rattle.pipes_link.specs.declared.outlet.Outlet.{Outlet}
 use Rattle.pipes_link.specs.declared.inlet.Inlet.{Inlet}
 use Rattle.pipes_link.specs.Ends.{sent, taken, known, AreEnds}
-use Rattle.pipes_box.specs.declared.operator.PlanOperator.{PlanOperator}
-use Rattle.pipes_box.specs.declared.port.Port.{Port}
-use Rattle.pipes_box.specs.declared.node.Node.{Node}
+use Rattle.pipes_node.specs.declared.operator.PlanOperator.{PlanOperator}
+use Rattle.pipes_node.specs.declared.port.Port.{Port}
+use Rattle.pipes_node.specs.declared.node.Node.{Node}
 use Rattle.pipes_box.specs.declared.build.Part.{Part}
-use Rattle.pipes_box.specs.Operators.{task_of, StandsFor}
-use Rattle.pipes_box.specs.Passing.{Passes}
-use Rattle.pipes_box.specs.Nodes.{IsCounted, PortStands, Emits, EmitsIn, NodeStands, task_in}
-use Rattle.pipes_box.specs.Nodes.{ports_of, kinds_at}
+use Rattle.pipes_node.specs.Operators.{task_of, StandsFor}
+use Rattle.pipes_node.specs.Passing.{Passes}
+use Rattle.pipes_node.specs.Nodes.{IsCounted, PortStands, Emits, EmitsIn, NodeStands, task_in}
+use Rattle.pipes_node.specs.Nodes.{ports_of, kinds_at}
 use Rattle.pipes_box.specs.Shapes.{Shape, Leaf, One, Two, gives_of, node_count, leaf_count}
 use Rattle.pipes_box.specs.Shapes.{KeepsBags, IsProper}
 use Rattle.pipes_box.specs.Networks.{LinkHolds, IsLinked, IsWired, IsSpot, IsNumbered}
 use Rattle.pipes_box.specs.Networks.{ChildAt, root_of}
 use Rattle.pipes_box.specs.Parts.{IsPortOf, Adds, AddsOver, AddsTask, PortsOver, IsNew, PartHolds}
-use Rattle.pipes_box.proofs.Saying.{says-self}
-use Rattle.pipes_box.proofs.NodeSteps.{place}
+use Rattle.pipes_node.proofs.Saying.{says-self}
+use Rattle.pipes_node.proofs.NodeSteps.{place}
 
 module _ {X : Type 0} where
   pub get-before : (xs ys : List X) (k : ℕ) (d : X) → k < length xs

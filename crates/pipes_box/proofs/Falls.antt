@@ -6,11 +6,12 @@ use Rattle.std.specs.List.{sum_by}
 use Rattle.std.proofs.lemmas.Bool.{cases_lt, ne_eqb}
 use Rattle.std.proofs.lemmas.List.Sums.{sum_by-cons}
 use Rattle.pipes_link.specs.Ends.{sent, taken, known}
-use Rattle.pipes_box.specs.declared.port.Port.{Port}
-use Rattle.pipes_box.specs.declared.node.Node.{Node}
+use Rattle.pipes_node.specs.declared.port.Port.{Port}
+use Rattle.pipes_node.specs.declared.node.Node.{Node}
 use Rattle.pipes_box.specs.Networks.{IsLinked}
-use Rattle.pipes_box.specs.Backlog.{waits_for, pends_with, sum_at, backlog_of, FallsAt}
-use Rattle.pipes_box.proofs.NodeSteps.{place, get-any}
+use Rattle.pipes_box.specs.Backlog.{waits_for, sum_at, backlog_of, FallsAt}
+use Rattle.pipes_node.specs.Nodes.{pends_with}
+use Rattle.pipes_node.proofs.NodeSteps.{place, get-any}
 
 -- ---- sums of two lists, item by item
 

@@ -14,16 +14,16 @@ use Rattle.pipes_link.specs.Ends.{sent, taken, spare, SameOutlet}
 use Rattle.pipes_link.proofs.Keeping.{same_outlet_self}
 use Rattle.pipes_plan.specs.declared.plan.Plan.{Plan}
 use Rattle.pipes_box.specs.declared.leaf.Leaf.{Leaf as PlanLeaf}
-use Rattle.pipes_box.specs.declared.node.Node.{Node}
+use Rattle.pipes_node.specs.declared.node.Node.{Node}
 use Rattle.pipes_box.specs.declared.plan_box.PlanBox.{PlanBox}
-use Rattle.pipes_box.specs.Nodes.{IsCounted, NodeStands, NodeHolds, NodeMoves, EmitsIn, PutOf}
-use Rattle.pipes_box.specs.Nodes.{task_in}
+use Rattle.pipes_node.specs.Nodes.{IsCounted, NodeStands, NodeHolds, NodeMoves, EmitsIn, PutOf}
+use Rattle.pipes_node.specs.Nodes.{task_in}
 use Rattle.pipes_box.specs.Shapes.{Shape, Leaf, One, Two, shape_of, node_count, leaf_count}
 use Rattle.pipes_box.specs.Shapes.{GivenFits, sources_of}
 use Rattle.pipes_box.specs.Networks.{IsLinked, IsWired, LeavesGave, leaves_of}
 use Rattle.pipes_box.specs.Boxes.{IsSound, BoxStands, HasPlace}
-use Rattle.pipes_box.proofs.NodeSteps.{place, get-any, node_moves-self, moves-puts, with-same}
-use Rattle.pipes_box.proofs.NodeSteps.{with-other}
+use Rattle.pipes_node.proofs.NodeSteps.{place, get-any, node_moves-self, moves-puts, with-same}
+use Rattle.pipes_node.proofs.NodeSteps.{with-other}
 use Rattle.pipes_box.proofs.Looks.{with_outlet}
 use Rattle.pipes_box.proofs.Built.{get-before}
 use Rattle.pipes_box.proofs.BoxLaw.{leaves-in}

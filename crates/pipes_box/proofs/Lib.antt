@@ -1,10 +1,3 @@
-pub mod Saying
-pub mod Merges
-pub mod Passed
-pub mod Emitting
-pub mod NodeSteps
-pub mod Stood
-pub mod Sent
 pub mod Answering
 pub mod Network
 pub mod Prompting
@@ -15,7 +8,6 @@ pub mod Plans
 pub mod PerKind
 pub mod Meanings
 pub mod BoxLaw
-pub mod Totals
 pub mod Rounds
 pub mod Stillness
 pub mod Moving

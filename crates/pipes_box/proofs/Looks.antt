@@ -11,12 +11,12 @@ use Rattle.pipes_link.specs.Ends.{sent, spare, room_of, taken, known, ready, Sam
 use Rattle.pipes_link.specs.Ends.{AreEnds}
 use Rattle.pipes_link.proofs.Keeping.{ends_keep, same_outlet_self, same_outlet_trans}
 use Rattle.pipes_link.proofs.Keeping.{same_inlet_self, same_inlet_trans}
-use Rattle.pipes_box.specs.declared.port.Port.{Port}
-use Rattle.pipes_box.specs.declared.node.Node.{Node}
-use Rattle.pipes_box.specs.Nodes.{IsCounted, PortLooks, NodeLooks, NodeMoves, PortMoves, NodeTurned}
-use Rattle.pipes_box.specs.Nodes.{task_in, ports_of}
+use Rattle.pipes_node.specs.declared.port.Port.{Port}
+use Rattle.pipes_node.specs.declared.node.Node.{Node}
+use Rattle.pipes_node.specs.Nodes.{IsCounted, PortLooks, NodeLooks, NodeMoves, PortMoves, NodeTurned}
+use Rattle.pipes_node.specs.Nodes.{task_in, ports_of}
 use Rattle.pipes_box.specs.Networks.{LinkHolds, IsLinked, SettledLink, PortSettled, SettlesPorts}
-use Rattle.pipes_box.proofs.NodeSteps.{place, get-any}
+use Rattle.pipes_node.proofs.NodeSteps.{place, get-any}
 use Rattle.pipes_box.proofs.Pieces.{both-count, both-first, both-second, both-other, each-place}
 
 abbrev pub with_outlet : Node → Outlet Message → Node

@@ -7,16 +7,17 @@ use Rattle.std.proofs.lemmas.Bool.{cases_lt, ne_eqb}
 use Rattle.std.proofs.lemmas.List.{take_more}
 use Rattle.std.proofs.lemmas.List.Sums.{sum_by-cons}
 use Rattle.pipes_link.specs.Ends.{sent, taken, ready}
-use Rattle.pipes_box.specs.declared.port.Port.{Port}
-use Rattle.pipes_box.specs.declared.node.Node.{Node}
+use Rattle.pipes_node.specs.declared.port.Port.{Port}
+use Rattle.pipes_node.specs.declared.node.Node.{Node}
 use Rattle.pipes_box.specs.declared.plan_box.PlanBox.{PlanBox}
-use Rattle.pipes_box.specs.Nodes.{NodeLooks, NodeMoves, Turned, total_ready}
+use Rattle.pipes_node.specs.Nodes.{NodeLooks, NodeMoves, Turned, total_ready}
 use Rattle.pipes_box.specs.Networks.{IsLinked, SettlesPorts}
 use Rattle.pipes_box.specs.Boxes.{IsSound}
 use Rattle.pipes_box.specs.Rounds.{AllTurned, TopLooks}
-use Rattle.pipes_box.specs.Backlog.{backlog_of, FallsAt, lowered_by, lowered_first}
-use Rattle.pipes_box.proofs.NodeSteps.{place, get-any}
-use Rattle.pipes_box.proofs.Totals.{sum-rises, sum-same, sum-zero}
+use Rattle.pipes_box.specs.Backlog.{backlog_of, FallsAt, lowered_first}
+use Rattle.pipes_node.specs.Nodes.{lowered_by}
+use Rattle.pipes_node.proofs.NodeSteps.{place, get-any}
+use Rattle.pipes_node.proofs.Totals.{sum-rises, sum-same, sum-zero}
 use Rattle.pipes_box.proofs.BoxLaw.{some-node}
 use Rattle.pipes_box.proofs.Moving.{port-took-all}
 use Rattle.pipes_box.proofs.Falls.{Went, falls-waiting, falls-pending}

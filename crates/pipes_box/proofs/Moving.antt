@@ -9,14 +9,14 @@ use Rattle.pipes_link.specs.declared.outlet.Outlet.{Outlet}
 use Rattle.pipes_link.specs.declared.inlet.Inlet.{Inlet}
 use Rattle.pipes_link.specs.Ends.{sent, spare, room_of, taken, known, ready}
 use Rattle.pipes_link.proofs.Keeping.{room_of-bounds}
-use Rattle.pipes_box.specs.declared.port.Port.{Port}
-use Rattle.pipes_box.specs.declared.node.Node.{Node}
+use Rattle.pipes_node.specs.declared.port.Port.{Port}
+use Rattle.pipes_node.specs.declared.node.Node.{Node}
 use Rattle.pipes_box.specs.declared.plan_box.PlanBox.{PlanBox}
-use Rattle.pipes_box.specs.Nodes.{NodeLooks, NodeMoves, NodeTurned, PortMoves, Turned, total_ready}
+use Rattle.pipes_node.specs.Nodes.{NodeLooks, NodeMoves, NodeTurned, PortMoves, Turned, total_ready}
 use Rattle.pipes_box.specs.Networks.{IsLinked, SettledLink, SettlesPorts}
 use Rattle.pipes_box.specs.Boxes.{IsSound, IsQuiet, IsStill, Moved, moved_by, all_moved}
 use Rattle.pipes_box.specs.Rounds.{AllTurned, TopLooks, TopTaken}
-use Rattle.pipes_box.proofs.Totals.{Rises, sum-rises, sum-same, sum-clamped, sum-zero}
+use Rattle.pipes_node.proofs.Totals.{Rises, sum-rises, sum-same, sum-clamped, sum-zero}
 use Rattle.pipes_box.proofs.BoxLaw.{some-node}
 use Rattle.pipes_box.proofs.Rounds.{no-more}
 

@@ -7,15 +7,15 @@ use Rattle.pipes_stream.specs.Lists.{start_of_list}
 use Rattle.pipes_stream.specs.Lawful.{Lists, Task, Lawful}
 use Rattle.pipes_link.specs.declared.outlet.Outlet.{Outlet}
 use Rattle.pipes_link.specs.Ends.{sent, taken, known}
-use Rattle.pipes_box.specs.declared.port.Port.{Port}
-use Rattle.pipes_box.specs.declared.node.Node.{Node}
-use Rattle.pipes_box.specs.Passing.{Passes}
-use Rattle.pipes_box.specs.Nodes.{IsCounted, PassedFirst, PutOf, NodeStood, task_in, ports_of}
-use Rattle.pipes_box.specs.Nodes.{kinds_at}
+use Rattle.pipes_node.specs.declared.port.Port.{Port}
+use Rattle.pipes_node.specs.declared.node.Node.{Node}
+use Rattle.pipes_node.specs.Passing.{Passes}
+use Rattle.pipes_node.specs.Nodes.{IsCounted, PassedFirst, PutOf, NodeStood, task_in, ports_of}
+use Rattle.pipes_node.specs.Nodes.{kinds_at}
 use Rattle.pipes_box.specs.Shapes.{Shape, Leaf, One, Two, gives_of, node_count, leaf_count}
 use Rattle.pipes_box.specs.Shapes.{GivenFits, Answers, KeepsBags, IsProper}
 use Rattle.pipes_box.specs.Networks.{LinkHolds, IsLinked, IsWired, LeavesGave, ChildAt, root_of}
-use Rattle.pipes_box.proofs.Passed.{passes-all}
+use Rattle.pipes_node.proofs.Passed.{passes-all}
 use Rattle.pipes_box.proofs.Answering.{answers-leaf, answers-one, answers-two, answers-prefix}
 
 pub some-port : (ps : List Port) → 0 < length ps → Port

@@ -2,7 +2,7 @@
 use Rattle.std.proofs.Common.{◌≡◌, ℕ, zero, suc, ◌≤◌, ◌<◌, List, [], ◌∷◌, ◌++◌, length, take, drop}
 use Rattle.std.proofs.Common.{get_or, set, refl, sym, ◌∙◌, ap, subst, arith, length-set, inl, inr}
 use Rattle.std.proofs.lemmas.List.{get_or-set_same, get_or-set_other}
-use Rattle.pipes_box.proofs.NodeSteps.{place}
+use Rattle.pipes_node.proofs.NodeSteps.{place}
 
 module _ {X : Type 0} where
   set-rest : (xs : List X) (c : ℕ) (b : X) → c < length xs → take c xs

@@ -18,7 +18,7 @@ use Rattle.pipes_plan.specs.Refusals.{Checks, at, looked}
 use Rattle.pipes_plan.proofs.PlanEquations.{kinds-Source}
 use Rattle.pipes_plan.proofs.PlanTyped.{then_is, both_are}
 use Rattle.pipes_box.specs.declared.leaf.Leaf.{Leaf as PlanLeaf}
-use Rattle.pipes_box.specs.declared.node.Node.{Node}
+use Rattle.pipes_node.specs.declared.node.Node.{Node}
 use Rattle.pipes_box.specs.declared.build.Part.{Part}
 use Rattle.pipes_box.specs.Shapes.{Shape, Leaf, One, Two, shape_of, gives_of, node_count, KeepsBags}
 use Rattle.pipes_box.specs.Networks.{leaves_of}

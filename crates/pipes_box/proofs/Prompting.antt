@@ -15,7 +15,7 @@ use Rattle.pipes_stream.proofs.Messages.{beat-closed}
 use Rattle.pipes_stream.proofs.Ports.{floor-below, covered-itself}
 use Rattle.pipes_tuple.specs.declared.value.Kind.{Kind}
 use Rattle.pipes_box.specs.Shapes.{Shape, Leaf, One, Two, leaf_count, leaf_elements, Answers}
-use Rattle.pipes_box.specs.Prompt.{least_given, depth_of, floors, AllEnded, IsPrompt}
+use Rattle.pipes_box.specs.Prompt.{least_given, with_lag, lag_of, floors, AllEnded, IsPrompt}
 use Rattle.pipes_box.proofs.Answering.{wider-left, wider-right}
 
 -- the floor is no higher than the start of an element that reaches h
@@ -66,6 +66,12 @@ floors-more (suc n) m h es l =
       | inr g ↦ omega (arith, floor-below (floors n h es) es, floors-more n m h es g)
     ]
 
+-- an operator lowers the floor by a turn where it lags, and else not at all
+turned-or-not : (b : Bool) (n h m : ℕ) (es : List Elem) → floor (floors n h es) es ≤ m
+    → (b ≡ false → floors n h es ≤ m) → floors (with_lag b n) h es ≤ m
+turned-or-not true n h m es turned kept = turned
+turned-or-not false n h m es turned kept = kept refl
+
 pub prompt-leaf : (source : ℕ) (kinds : List Kind) (n : ℕ) (given : Lists)
     → IsPrompt (Leaf source kinds) n given (given n)
 prompt-leaf source kinds n given =
@@ -91,7 +97,7 @@ pub prompt-one : (task : Task) (a : Shape) (n held : ℕ) (given passed : Lists)
     → IsPrompt (One task a) n given list
 prompt-one task a n held given passed list one answers child l =
     let es : List Elem = leaf_elements a n given in
-    let h : ℕ = floors (depth_of a) (least_given a n given) es in
+    let h : ℕ = floors (lag_of a) (least_given a n given) es in
     let low : beat list ≤ least 1 passed = subst (λ (k : ℕ). beat list ≤ least k passed) one
     l.below in
     let up : floor (least 1 passed) (all_elements 1 passed) ≤ beat list =
@@ -99,10 +105,15 @@ prompt-one task a n held given passed list one answers child l =
     let step : floor h es ≤ floor (least 1 passed) (all_elements 1 passed) =
     floor-parts h (least 1 passed) es (all_elements 1 passed)
     (omega (arith, child.above, beat-closed (passed 0) answers.valid)) answers.spans in
-    let all : floor h es ≤ beat list = omega (arith, step, up) in
+    let high : h ≤ least 1 passed =
+    omega (arith, child.above, beat-closed (passed 0) answers.valid) in
+    let kept : task.lags ≡ false → h ≤ beat list = λ e.
+    let at : beat list ≡ least 1 passed = subst (λ (k : ℕ). beat list ≡ least k passed) one
+    (l.prompt e) in omega (arith, at, high) in
     record {
       below = omega (arith, low, child.below);
-      above = all;
+      above = turned-or-not task.lags (lag_of a) (least_given a n given) (beat list) es
+          (omega (arith, step, up)) kept;
       ends = λ e. (l.ends (ended-one task.ports passed one (child.ends e))).0;
     }
 
@@ -117,24 +128,24 @@ prompt-two task a b n held given passed list two answers answers' left right l =
     let es : List Elem = xs ++ ys in
     let p : ℕ = least_given a n given in
     let q : ℕ = least_given b (n + leaf_count a) given in
-    let most : ℕ = max (depth_of a) (depth_of b) in
+    let most : ℕ = max (lag_of a) (lag_of b) in
     let h : ℕ = floors most (min p q) es in
     let low : beat list ≤ least 2 passed = subst (λ (k : ℕ). beat list ≤ least k passed) two
     l.below in
     let up : floor (least 2 passed) (all_elements 2 passed) ≤ beat list =
     subst (λ (k : ℕ). floor (least k passed) (all_elements k passed) ≤ beat list) two l.above in
-    let first : h ≤ floors (depth_of a) p xs =
+    let first : h ≤ floors (lag_of a) p xs =
     omega (
       arith,
-      floors-more most (depth_of a) (min p q) es (omega arith),
-      floors-parts (depth_of a) (min p q) p es xs (omega arith)
+      floors-more most (lag_of a) (min p q) es (omega arith),
+      floors-parts (lag_of a) (min p q) p es xs (omega arith)
           (All-weaker (IsCovered xs) (IsCovered es) (wider-left xs ys) xs (covered-itself xs)),
     ) in
-    let second : h ≤ floors (depth_of b) q ys =
+    let second : h ≤ floors (lag_of b) q ys =
     omega (
       arith,
-      floors-more most (depth_of b) (min p q) es (omega arith),
-      floors-parts (depth_of b) (min p q) q es ys (omega arith)
+      floors-more most (lag_of b) (min p q) es (omega arith),
+      floors-parts (lag_of b) (min p q) q es ys (omega arith)
           (All-weaker (IsCovered ys) (IsCovered es) (wider-right xs ys) ys (covered-itself ys)),
     ) in
     let lefts : All (IsCovered es) (elements (passed 0)) =
@@ -147,9 +158,13 @@ prompt-two task a b n held given passed list two answers answers' left right l =
     floor-parts h (least 2 passed) es (all_elements 2 passed)
     (omega (arith, first, second, left.above, right.above, beat-closed (passed 0) answers.valid))
     (All-append (IsCovered es) (elements (passed 0)) (elements (passed 1)) lefts rights) in
-    let all : floor h es ≤ beat list = omega (arith, step, up) in
+    let high : h ≤ least 2 passed =
+    omega (arith, first, second, left.above, right.above, beat-closed (passed 0) answers.valid) in
+    let kept : task.lags ≡ false → h ≤ beat list = λ e.
+    let at : beat list ≡ least 2 passed = subst (λ (k : ℕ). beat list ≡ least k passed) two
+    (l.prompt e) in omega (arith, at, high) in
     record {
       below = omega (arith, low, left.below, right.below);
-      above = all;
+      above = turned-or-not task.lags most (min p q) (beat list) es (omega (arith, step, up)) kept;
       ends = λ e. (l.ends (ended-two task.ports passed two (left.ends e.0) (right.ends e.1))).0;
     }

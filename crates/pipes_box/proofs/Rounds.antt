@@ -16,22 +16,22 @@ use Rattle.pipes_link.specs.Ends.{sent, spare, room_of, taken, known, ready, Are
 use Rattle.pipes_link.specs.Ends.{SameInlet}
 use Rattle.pipes_link.proofs.Keeping.{ends_keep, same_inlet_self, same_outlet_self}
 use Rattle.pipes_plan.specs.declared.plan.Plan.{Plan}
-use Rattle.pipes_box.specs.declared.operator.PlanOperator.{PlanOperator}
-use Rattle.pipes_box.specs.declared.port.Port.{Port}
-use Rattle.pipes_box.specs.declared.node.Node.{Node}
+use Rattle.pipes_node.specs.declared.operator.PlanOperator.{PlanOperator}
+use Rattle.pipes_node.specs.declared.port.Port.{Port}
+use Rattle.pipes_node.specs.declared.node.Node.{Node}
 use Rattle.pipes_box.specs.declared.plan_box.PlanBox.{PlanBox}
-use Rattle.pipes_box.specs.Nodes.{IsCounted, EmitsIn, NodeStands, NodeLooks, PortLooks, PortStands}
-use Rattle.pipes_box.specs.Nodes.{NodeMoves, PortMoves, NodeTurned, Turned, total_ready, task_in}
-use Rattle.pipes_box.specs.Nodes.{ports_of, kinds_at, PutOf, NodeStood, NodeHolds}
-use Rattle.pipes_box.specs.Passing.{Passes}
+use Rattle.pipes_node.specs.Nodes.{IsCounted, EmitsIn, NodeStands, NodeLooks, PortLooks, PortStands}
+use Rattle.pipes_node.specs.Nodes.{NodeMoves, PortMoves, NodeTurned, Turned, total_ready, task_in}
+use Rattle.pipes_node.specs.Nodes.{ports_of, kinds_at, PutOf, NodeStood, NodeHolds}
+use Rattle.pipes_node.specs.Passing.{Passes}
 use Rattle.pipes_box.specs.Shapes.{Shape, Leaf, One, Two, shape_of, node_count, leaf_count}
 use Rattle.pipes_box.specs.Shapes.{IsProper}
 use Rattle.pipes_box.specs.Networks.{EndsHold, LinkHolds, IsLinked, IsWired, IsSpot}
 use Rattle.pipes_box.specs.Networks.{IsNumbered, LeavesGave, ChildAt, root_of, SettlesPorts}
 use Rattle.pipes_box.specs.Boxes.{IsSound, BoxStands}
 use Rattle.pipes_box.specs.Rounds.{TopLooks}
-use Rattle.pipes_box.proofs.NodeSteps.{place, get-any}
-use Rattle.pipes_box.proofs.Stood.{refused-or-going, has-gone}
+use Rattle.pipes_node.proofs.NodeSteps.{place, get-any}
+use Rattle.pipes_node.proofs.Stood.{refused-or-going, has-gone}
 use Rattle.pipes_box.proofs.Looks.{node_looks-self, looks-outlet, with_outlet, deeper-kept}
 
 -- ---- a look at the links

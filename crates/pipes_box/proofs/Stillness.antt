@@ -12,14 +12,14 @@ use Rattle.pipes_stream.specs.Lists.{start_of_list}
 use Rattle.pipes_stream.specs.Lawful.{Lists, Task, Lawful}
 use Rattle.pipes_link.specs.Ends.{sent, taken, spare}
 use Rattle.pipes_plan.specs.declared.plan.Plan.{Plan}
-use Rattle.pipes_box.specs.declared.operator.PlanOperator.{PlanOperator}
-use Rattle.pipes_box.specs.declared.port.Port.{Port}
-use Rattle.pipes_box.specs.declared.node.Node.{Node}
+use Rattle.pipes_node.specs.declared.operator.PlanOperator.{PlanOperator}
+use Rattle.pipes_node.specs.declared.port.Port.{Port}
+use Rattle.pipes_node.specs.declared.node.Node.{Node}
 use Rattle.pipes_box.specs.declared.plan_box.PlanBox.{PlanBox}
-use Rattle.pipes_box.specs.Operators.{task_of, held_by}
-use Rattle.pipes_box.specs.Passing.{Passes}
-use Rattle.pipes_box.specs.Nodes.{IsCounted, PortStands, EmitsIn, NodeStands, NodeStood, task_in}
-use Rattle.pipes_box.specs.Nodes.{ports_of, kinds_at, held_in}
+use Rattle.pipes_node.specs.Operators.{task_of, held_by}
+use Rattle.pipes_node.specs.Passing.{Passes}
+use Rattle.pipes_node.specs.Nodes.{IsCounted, PortStands, EmitsIn, NodeStands, NodeStood, task_in}
+use Rattle.pipes_node.specs.Nodes.{ports_of, kinds_at, held_in}
 use Rattle.pipes_box.specs.Shapes.{Shape, Leaf, One, Two, shape_of, gives_of, node_count}
 use Rattle.pipes_box.specs.Shapes.{leaf_count, GivenFits, Answers, IsProper}
 use Rattle.pipes_box.specs.Prompt.{AllEnded, IsPrompt}
@@ -28,11 +28,11 @@ use Rattle.pipes_box.specs.Networks.{IsLinked, IsWired, LeavesGave, ChildAt, roo
 use Rattle.pipes_box.specs.Boxes.{IsSound, BoxStands, IsQuiet, IsStill, HasPlace, all_held}
 use Rattle.pipes_box.proofs.Built.{get-before}
 use Rattle.pipes_box.proofs.Giving.{get-later, leaves-count}
-use Rattle.pipes_box.proofs.Emitting.{emits-lawful}
-use Rattle.pipes_box.proofs.Passed.{passes-all}
-use Rattle.pipes_box.proofs.NodeSteps.{place, get-any}
+use Rattle.pipes_node.proofs.Emitting.{emits-lawful}
+use Rattle.pipes_node.proofs.Passed.{passes-all}
+use Rattle.pipes_node.proofs.NodeSteps.{place, get-any}
 use Rattle.pipes_box.proofs.Network.{network, some-port}
-use Rattle.pipes_box.proofs.Stood.{stands-stood}
+use Rattle.pipes_node.proofs.Stood.{stands-stood}
 use Rattle.pipes_box.proofs.BoxLaw.{root-last, some-node}
 use Rattle.pipes_box.proofs.Rounds.{no-task}
 use Rattle.pipes_box.proofs.Prompting.{prompt-leaf, prompt-one, prompt-two, ended-one, ended-two}

@@ -10,17 +10,18 @@ use Rattle.pipes_stream.specs.declared.message.Message.{Message}
 use Rattle.pipes_stream.specs.Lawful.{Lists}
 use Rattle.pipes_link.specs.Ends.{sent, taken, known, ready}
 use Rattle.pipes_plan.specs.declared.plan.Plan.{Plan}
-use Rattle.pipes_box.specs.declared.port.Port.{Port}
-use Rattle.pipes_box.specs.declared.node.Node.{Node}
+use Rattle.pipes_node.specs.declared.port.Port.{Port}
+use Rattle.pipes_node.specs.declared.node.Node.{Node}
 use Rattle.pipes_box.specs.declared.plan_box.PlanBox.{PlanBox}
-use Rattle.pipes_box.specs.Nodes.{NodeLooks, total_ready}
+use Rattle.pipes_node.specs.Nodes.{NodeLooks, total_ready}
 use Rattle.pipes_box.specs.Networks.{IsLinked, SettlesPorts}
 use Rattle.pipes_box.specs.Boxes.{IsSound, IsStill, BoxStands, StaysAsBefore, TakesOne, TakesAll}
 use Rattle.pipes_box.specs.Rounds.{TopKnown, TopTaken, TopLooks, StepFalls}
-use Rattle.pipes_box.specs.Backlog.{backlog, backlog_of, known_backlog, waits_for, pends_with}
+use Rattle.pipes_box.specs.Backlog.{backlog, backlog_of, known_backlog, waits_for}
+use Rattle.pipes_node.specs.Nodes.{pends_with}
 use Rattle.pipes_box.specs.Backlog.{sum_at, FallsAt}
 use Rattle.pipes_box.proofs.Rounds.{no-more}
-use Rattle.pipes_box.proofs.NodeSteps.{get-any, place}
+use Rattle.pipes_node.proofs.NodeSteps.{get-any, place}
 use Rattle.pipes_box.proofs.Falls.{Went, sum-alike, same-backlog}
 use Rattle.pipes_box.proofs.Lowering.{looks-went}
 

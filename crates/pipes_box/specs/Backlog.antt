@@ -3,18 +3,15 @@ use Rattle.std.specs.Prelude.{◌≡◌, ℕ, ◌+◌, ◌-◌, ◌*◌, ◌/◌
 use Rattle.std.specs.Prelude.{length, get_or}
 use Rattle.std.specs.List.{sum_by}
 use Rattle.pipes_link.specs.Ends.{sent, taken}
-use Rattle.pipes_box.specs.declared.node.Node.{Node}
+use Rattle.pipes_node.specs.declared.node.Node.{Node}
 use Rattle.pipes_box.specs.declared.plan_box.PlanBox.{PlanBox}
-use Rattle.pipes_box.specs.Nodes.{total_ready}
+use Rattle.pipes_node.specs.Nodes.{total_ready, lowered_by, pends_with}
 
 -- how many messages wait for the node: those that its children put and it did not take yet
 abbrev pub waits_for : List Node → Node → ℕ
 waits_for nodes n =
     sum_by (λ p. length (sent (get_or nodes p.child n).outlet) - length (taken p.inlet))
     n.ports.items
-
-abbrev pub pends_with : Node → ℕ
-pends_with n = length n.pending.items
 
 -- a number of each node, summed up over the nodes at this depth
 abbrev pub sum_at : ℕ → (Node → ℕ) → List Node → ℕ
@@ -47,12 +44,7 @@ pub record FallsAt (old new : ℕ → ℕ) (place : ℕ) : Type 0 where
 abbrev pub Falls : (ℕ → ℕ) → (ℕ → ℕ) → Type 0
 Falls old new = (place : ℕ) × FallsAt old new place
 
--- The place of the first number that the node's last turn lowered: that of the messages which wait,
--- where it took one, and else that of those which are pending. 64 where nothing moved.
-abbrev pub lowered_by : Node → ℕ
-lowered_by n =
-    cond (eqb n.moved 0) 64 (2 * (31 - n.depth) + cond (eqb n.took 0) 1 0)
-
+-- the place of the first number that the last turns of these nodes lowered
 abbrev pub lowered_first : List Node → ℕ
 lowered_first [] = 64
 lowered_first (n ∷ ns) = min (lowered_by n) (lowered_first ns)

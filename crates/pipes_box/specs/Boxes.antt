@@ -10,10 +10,10 @@ use Rattle.pipes_link.specs.declared.inlet.Inlet.{Inlet}
 use Rattle.pipes_link.specs.Ends.{sent, taken, spare}
 use Rattle.pipes_plan.specs.declared.plan.Plan.{Plan}
 use Rattle.pipes_box.specs.declared.leaf.Leaf.{Leaf}
-use Rattle.pipes_box.specs.declared.port.Port.{Port}
-use Rattle.pipes_box.specs.declared.node.Node.{Node}
+use Rattle.pipes_node.specs.declared.port.Port.{Port}
+use Rattle.pipes_node.specs.declared.node.Node.{Node}
 use Rattle.pipes_box.specs.declared.plan_box.PlanBox.{PlanBox}
-use Rattle.pipes_box.specs.Nodes.{NodeHolds, held_in}
+use Rattle.pipes_node.specs.Nodes.{NodeHolds, held_in}
 use Rattle.pipes_box.specs.Shapes.{shape_of, node_count, GivenFits, IsProper}
 use Rattle.pipes_box.specs.Networks.{EndsHold, IsLinked, IsWired, IsNumbered, LeavesGave}
 use Rattle.pipes_box.specs.Networks.{leaves_of}

@@ -1,8 +1,3 @@
-pub mod Says
-pub mod Merging
-pub mod Operators
-pub mod Passing
-pub mod Nodes
 pub mod Shapes
 pub mod Prompt
 pub mod Networks

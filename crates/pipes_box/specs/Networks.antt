@@ -7,11 +7,11 @@ use Rattle.pipes_stream.specs.Lawful.{Lists, Task}
 use Rattle.pipes_link.specs.declared.outlet.Outlet.{Outlet}
 use Rattle.pipes_link.specs.declared.inlet.Inlet.{Inlet}
 use Rattle.pipes_link.specs.Ends.{sent, spare, room_of, taken, known, ready, AreEnds}
-use Rattle.pipes_box.specs.declared.port.Port.{Port}
+use Rattle.pipes_node.specs.declared.port.Port.{Port}
 use Rattle.pipes_box.specs.declared.leaf.Leaf.{Leaf as PlanLeaf}
-use Rattle.pipes_box.specs.declared.node.Node.{Node}
+use Rattle.pipes_node.specs.declared.node.Node.{Node}
 use Rattle.pipes_box.specs.Shapes.{Shape, Leaf, One, Two, node_count, leaf_count, gives_of}
-use Rattle.pipes_box.specs.Nodes.{IsCounted, NodeLooks, task_in}
+use Rattle.pipes_node.specs.Nodes.{IsCounted, NodeLooks, task_in}
 
 -- the two ends are of one link, and what was taken there and is known to wait is a prefix of what
 -- was put in

@@ -10,13 +10,13 @@ use Rattle.pipes_link.specs.Ends.{sent, taken, known, AreEnds}
 use Rattle.pipes_plan.specs.declared.plan.Plan.{Plan}
 use Rattle.pipes_plan.specs.PlanKinds.{IsTyped, plan_kinds}
 use Rattle.pipes_plan.specs.Sizes.{plan_nodes, plan_depth}
-use Rattle.pipes_box.specs.declared.operator.PlanOperator.{PlanOperator}
-use Rattle.pipes_box.specs.declared.port.Port.{Port}
+use Rattle.pipes_node.specs.declared.operator.PlanOperator.{PlanOperator}
+use Rattle.pipes_node.specs.declared.port.Port.{Port}
 use Rattle.pipes_box.specs.declared.leaf.Leaf.{Leaf}
-use Rattle.pipes_box.specs.declared.node.Node.{Node}
+use Rattle.pipes_node.specs.declared.node.Node.{Node}
 use Rattle.pipes_box.specs.declared.build.Part.{Part}
-use Rattle.pipes_box.specs.Operators.{task_of, StandsFor}
-use Rattle.pipes_box.specs.Nodes.{NodeStands}
+use Rattle.pipes_node.specs.Operators.{task_of, StandsFor}
+use Rattle.pipes_node.specs.Nodes.{NodeStands}
 use Rattle.pipes_box.specs.Shapes.{Shape, shape_of, node_count, gives_of, IsProper}
 use Rattle.pipes_box.specs.Networks.{IsLinked, IsWired, IsSpot, IsNumbered, root_of}
 use Rattle.pipes_box.specs.Networks.{leaves_of}

@@ -2,9 +2,9 @@
 use Rattle.std.specs.Prelude.{◌≡◌, ℕ, ◌+◌, ◌<◌, ◌≤◌, false, List, ◌++◌, length, get_or}
 use Rattle.std.specs.Prelude.{Option, Some, None}
 use Rattle.pipes_link.specs.Ends.{sent, spare, room_of, taken, known, ready}
-use Rattle.pipes_box.specs.declared.node.Node.{Node}
+use Rattle.pipes_node.specs.declared.node.Node.{Node}
 use Rattle.pipes_box.specs.declared.plan_box.PlanBox.{PlanBox}
-use Rattle.pipes_box.specs.Nodes.{NodeLooks, NodeTurned}
+use Rattle.pipes_node.specs.Nodes.{NodeLooks, NodeTurned}
 use Rattle.pipes_box.specs.Boxes.{IsStill}
 use Rattle.pipes_box.specs.Backlog.{backlog, FallsAt}
 

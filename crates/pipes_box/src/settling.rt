@@ -1,10 +1,10 @@
 // The links between the nodes of one list.
 ghost use Rattle.std.specs.Prelude.{◌≡◌, ◌<◌, ◌≤◌, ℕ, ◌+◌, List, length, get_or};
-ghost use Rattle.pipes_box.specs.declared.port.Port.{Port};
+ghost use Rattle.pipes_node.specs.declared.port.Port.{Port};
 ghost use Rattle.pipes_box.specs.Networks.{IsLinked, PortSettled, SettlesPorts};
 
-use crate::node::Node;
 use pipes_link::settle;
+use pipes_node::Node;
 
 // Settles the link of one port of one node.
 fn settle_port(nodes: &mut [Node], parent: usize, port: usize)

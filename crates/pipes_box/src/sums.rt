@@ -1,11 +1,11 @@
 // Numbers summed up over the nodes of a box.
 ghost use Rattle.std.specs.Prelude.{◌≡◌, ◌≤◌, ◌<◌, ◌-◌, ◌^◌, ℕ, length, get_or, min, false};
 ghost use Rattle.std.specs.List.{sum_by};
-ghost use Rattle.pipes_box.specs.Nodes.{held_in, total_ready};
+ghost use Rattle.pipes_node.specs.Nodes.{held_in, total_ready};
 ghost use Rattle.pipes_box.specs.Backlog.{lowered_first, known_backlog, sum_at};
-ghost use Rattle.pipes_box.specs.Backlog.{pends_with};
+ghost use Rattle.pipes_node.specs.Nodes.{pends_with};
 
-use crate::node::Node;
+use pipes_node::Node;
 
 // Whether memory was refused to a node.
 pub(crate) fn has_failed(nodes: &[Node]) -> bool

@@ -28,6 +28,8 @@ pub data Fault : Type 0 where
   QueryText : TextRefusal → Fault
   -- the query's plan does not check
   QueryType : TypeRefusal → Fault
+  -- the text of the derivation with this name has no reading
+  DerivationText : List ℕ → TextRefusal → Fault
   -- what was read is not served yet
   Unbuilt : Fault
   -- there is no such file
@@ -54,6 +56,7 @@ status_of (Some (ReadFile name)) = 4
 status_of (Some (ReadSource name)) = 4
 status_of (Some Write) = 5
 status_of (Some Memory) = 6
+status_of (Some (DerivationText name refusal)) = 7
 status_of (Some (Limit source line)) = 8
 status_of (Some Unbuilt) = 9
 
@@ -97,6 +100,8 @@ abbrev pub fault_parts : Fault → List (List ℕ)
 fault_parts Words = codes "words" ∷ []
 fault_parts (QueryText r) = codes "query" ∷ decimal r.line ∷ decimal r.column ∷ text_why r.why ∷ []
 fault_parts (QueryType r) = codes "query" ∷ codes "type" ∷ decimal r.place ∷ type_why r.why ∷ []
+fault_parts (DerivationText name r) = codes "derivation" ∷ quoted name ∷ decimal r.line
+    ∷ decimal r.column ∷ text_why r.why ∷ []
 fault_parts Unbuilt = codes "unbuilt" ∷ []
 fault_parts (Missing name) = codes "missing" ∷ quoted name ∷ []
 fault_parts (ReadFile name) = codes "read" ∷ quoted name ∷ []
@@ -124,6 +129,7 @@ abbrev pub fault_seen : Kept → Fault
 fault_seen kept.Words = Words
 fault_seen (kept.QueryText refusal) = QueryText refusal
 fault_seen (kept.QueryType refusal) = QueryType refusal
+fault_seen (kept.DerivationText name refusal) = DerivationText (name_seen name) refusal
 fault_seen kept.Unbuilt = Unbuilt
 fault_seen (kept.Missing name) = Missing (name_seen name)
 fault_seen (kept.ReadFile name) = ReadFile (name_seen name)

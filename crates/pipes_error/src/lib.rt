@@ -37,6 +37,13 @@ pub enum Fault<'w> {
     QueryText(TextRefusal),
     /// The query's plan doesn't check.
     QueryType(TypeRefusal),
+    /// The text of the derivation with this name has no reading.
+    DerivationText {
+        /// The derivation's file.
+        name: FileName<'w>,
+        /// Where the reading ends, and why.
+        refusal: TextRefusal,
+    },
     /// What was read isn't served yet.
     Unbuilt,
     /// There is no file with the name.
@@ -81,6 +88,7 @@ pub fn status(fault: &Fault<'_>) -> u8
         Fault::ReadSource(_) => 4,
         Fault::Write => 5,
         Fault::Memory => 6,
+        Fault::DerivationText { .. } => 7,
         Fault::Limit { .. } => 8,
         Fault::Unbuilt => 9,
     }
@@ -100,6 +108,7 @@ pub fn say<K: Sink>(err: &mut K, fault: &Fault<'_>)
         Fault::Words => say_parts(err, &[Piece::Plain(b"words")]),
         Fault::QueryText(refusal) => say_text(err, refusal),
         Fault::QueryType(refusal) => say_type(err, refusal),
+        Fault::DerivationText { name, refusal } => say_derivation(err, name.as_str(), refusal),
         Fault::Unbuilt => say_parts(err, &[Piece::Plain(b"unbuilt")]),
         Fault::Missing(name) => say_file(err, b"missing", name.as_str()),
         Fault::ReadFile(name) => say_file(err, b"read", name.as_str()),
@@ -161,6 +170,28 @@ fn say_text<K: Sink>(err: &mut K, refusal: &TextRefusal)
         err,
         &[
             Piece::Plain(b"query"),
+            Piece::Number(refusal.line as u64),
+            Piece::Number(refusal.column as u64),
+            Piece::Plain(why),
+        ],
+    )
+}
+
+fn say_derivation<K: Sink>(err: &mut K, name: &str, refusal: &TextRefusal)
+    ensures { WritesLine (fault_line (Some (fault.DerivationText name.now refusal.now)))
+        (record {
+          written_before = K.written err.old;
+          written_now = K.written err.new;
+          faults_before = K.faults err.old;
+          faults_now = K.faults err.new;
+        }) }
+{
+    let why = text_why(refusal.why);
+    say_parts(
+        err,
+        &[
+            Piece::Plain(b"derivation"),
+            Piece::Name(name.as_bytes()),
             Piece::Number(refusal.line as u64),
             Piece::Number(refusal.column as u64),
             Piece::Plain(why),

@@ -1,6 +1,6 @@
 // The values of expressions.
-ghost use Rattle.std.specs.Prelude.{◌≡◌, ◌++◌, ◌+ℤ◌, ◌-ℤ◌, ◌*ℤ◌, IfOk};
-ghost use Rattle.pipes_expr.specs.ExprValue.{value_of, column, clamped, op_value, passes};
+ghost use Rattle.std.specs.Prelude.{◌≡◌, ◌++◌, IfOk};
+ghost use Rattle.pipes_expr.specs.ExprValue.{value_of, column, op_value, passes};
 ghost use Rattle.pipes_expr.specs.Seen.{value_seen};
 
 use crate::{Expr, Op, Seen};
@@ -34,6 +34,7 @@ impl Expr {
 }
 
 // The value of the expression on the columns of two rows, the left one's first.
+#[cycle(look)]
 fn look<'a>(expr: &'a Expr, left: &'a [Value], right: &'a [Value]) -> Seen<'a>
     ensures { value_seen result ≡ value_of expr.now (left.now ++ right.now) }
 {
@@ -41,13 +42,32 @@ fn look<'a>(expr: &'a Expr, left: &'a [Value], right: &'a [Value]) -> Seen<'a>
         Expr::Col(i) => column_of(left, right, *i as usize),
         Expr::Literal(value) => Seen::of(value),
         Expr::Binary(op, a, b) => {
-            apply(*op, look(a.get(), left, right), look(b.get(), left, right))
+            apply(
+                *op,
+                look_in(a.get(), left, right),
+                look_in(b.get(), left, right),
+            )
         }
-        Expr::Not(a) => Seen::Flag(!look(a.get(), left, right).is_true()),
+        Expr::Not(a) => Seen::Flag(!look_in(a.get(), left, right).is_true()),
+    }
+}
+
+// The same for a part of an expression. Most parts are columns and literals, which are read here,
+// without a call.
+#[cycle(look)]
+#[inline(always)]
+fn look_in<'a>(part: &'a Expr, left: &'a [Value], right: &'a [Value]) -> Seen<'a>
+    ensures { value_seen result ≡ value_of part.now (left.now ++ right.now) }
+{
+    match part {
+        Expr::Col(i) => column_of(left, right, *i as usize),
+        Expr::Literal(value) => Seen::of(value),
+        _ => look(part, left, right),
     }
 }
 
 // The value in the column of two rows, the left one's first, and false where there is none.
+#[inline(always)]
 #[tactic(auto, using(crate::proofs::ConcatenatedRows::columns))]
 fn column_of<'a>(left: &'a [Value], right: &'a [Value], i: usize) -> Seen<'a>
     ensures { value_seen result ≡ column (left.now ++ right.now) i }
@@ -59,46 +79,24 @@ fn column_of<'a>(left: &'a [Value], right: &'a [Value], i: usize) -> Seen<'a>
     }
 }
 
-// What the operator makes of two values.
+// What the operator makes of two values. Numbers are compared without a call.
+#[inline(always)]
 #[tactic(auto, using(crate::proofs::Comparisons::equal_by_order))]
 fn apply<'a>(op: Op, a: Seen<'_>, b: Seen<'_>) -> Seen<'a>
     ensures { value_seen result ≡ op_value op (value_seen a.entry) (value_seen b.entry) }
 {
-    match op {
-        Op::Add => add(a, b),
-        Op::Sub => sub(a, b),
-        Op::Mul => mul(a, b),
-        Op::Eq => Seen::Flag(a.order(b).is_eq()),
-        Op::Lt => Seen::Flag(a.order(b).is_lt()),
-        Op::Le => Seen::Flag(a.order(b).is_le()),
-        Op::And => Seen::Flag(a.is_true() && b.is_true()),
-        Op::Or => Seen::Flag(a.is_true() || b.is_true()),
-    }
-}
-
-fn add<'a>(a: Seen<'_>, b: Seen<'_>) -> Seen<'a>
-    ensures { value_seen result ≡ clamped ◌+ℤ◌ (value_seen a.entry) (value_seen b.entry) }
-{
-    match (a, b) {
-        (Seen::Int(m), Seen::Int(n)) => Seen::Int(m.saturating_add(n)),
-        _ => Seen::Flag(false),
-    }
-}
-
-fn sub<'a>(a: Seen<'_>, b: Seen<'_>) -> Seen<'a>
-    ensures { value_seen result ≡ clamped ◌-ℤ◌ (value_seen a.entry) (value_seen b.entry) }
-{
-    match (a, b) {
-        (Seen::Int(m), Seen::Int(n)) => Seen::Int(m.saturating_sub(n)),
-        _ => Seen::Flag(false),
-    }
-}
-
-fn mul<'a>(a: Seen<'_>, b: Seen<'_>) -> Seen<'a>
-    ensures { value_seen result ≡ clamped ◌*ℤ◌ (value_seen a.entry) (value_seen b.entry) }
-{
-    match (a, b) {
-        (Seen::Int(m), Seen::Int(n)) => Seen::Int(m.saturating_mul(n)),
-        _ => Seen::Flag(false),
+    match (op, a, b) {
+        (Op::Add, Seen::Int(m), Seen::Int(n)) => Seen::Int(m.saturating_add(n)),
+        (Op::Sub, Seen::Int(m), Seen::Int(n)) => Seen::Int(m.saturating_sub(n)),
+        (Op::Mul, Seen::Int(m), Seen::Int(n)) => Seen::Int(m.saturating_mul(n)),
+        (Op::Add | Op::Sub | Op::Mul, _, _) => Seen::Flag(false),
+        (Op::Eq, Seen::Int(m), Seen::Int(n)) => Seen::Flag(m == n),
+        (Op::Lt, Seen::Int(m), Seen::Int(n)) => Seen::Flag(m < n),
+        (Op::Le, Seen::Int(m), Seen::Int(n)) => Seen::Flag(m <= n),
+        (Op::Eq, a, b) => Seen::Flag(a.order(b).is_eq()),
+        (Op::Lt, a, b) => Seen::Flag(a.order(b).is_lt()),
+        (Op::Le, a, b) => Seen::Flag(a.order(b).is_le()),
+        (Op::And, a, b) => Seen::Flag(a.is_true() && b.is_true()),
+        (Op::Or, a, b) => Seen::Flag(a.is_true() || b.is_true()),
     }
 }

@@ -21,6 +21,7 @@ pub enum Seen<'a> {
 
 impl<'a> Seen<'a> {
     /// The value.
+    #[inline(always)]
     pub fn of(value: &'a Value) -> Seen<'a>
         ensures { value_seen result ≡ value.now }
     {
@@ -32,6 +33,7 @@ impl<'a> Seen<'a> {
     }
 
     /// The value in the column, and false where there is none.
+    #[inline(always)]
     pub fn at(row: &'a [Value], i: usize) -> Seen<'a>
         ensures { value_seen result ≡ column row.now i }
     {

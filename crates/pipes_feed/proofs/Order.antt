@@ -1,6 +1,6 @@
 -- The order of a source's items, arrival by arrival.
-use Rattle.std.proofs.Common.{◌≡◌, ℕ, ◌≤◌, ◌<◌, List, [], ◌∷◌, ◌++◌, Bool, true, false, cond}
-use Rattle.std.proofs.Common.{nat_le, nat_lt, max, filter, refl, sym, ap, ◌∙◌, subst, append_assoc}
+use Rattle.std.proofs.Common.{◌≡◌, ℕ, ◌≤◌, List, [], ◌∷◌, ◌++◌, true, false}
+use Rattle.std.proofs.Common.{nat_le, nat_lt, filter, refl, sym, ap, ◌∙◌, subst, append_assoc}
 use Rattle.std.proofs.Common.{append-nil, arith}
 use Rattle.std.specs.Prelude.{⊤}
 use Rattle.std.specs.List.{All}
@@ -13,7 +13,7 @@ use Rattle.pipes_window.specs.declared.item.Item.TheVariants.{Row, Beat}
 use Rattle.pipes_line.specs.Lines.{Line, size_of, lines_of}
 use Rattle.pipes_feed.specs.declared.line.Verdict.{Verdict}
 use Rattle.pipes_feed.specs.declared.line.Verdict.TheVariants.{Pass, Give, Refuse, Limit}
-use Rattle.pipes_feed.specs.Reached.{Reached, source_start, stamp_floor, newest_after, beat_after}
+use Rattle.pipes_feed.specs.Reached.{Reached, source_start, stamp_floor}
 use Rattle.pipes_feed.specs.Reached.{after_line, after_item}
 use Rattle.pipes_feed.specs.Ahead.{ArrivalFollows}
 use Rattle.pipes_feed.specs.Judged.{judge}

@@ -1,14 +1,14 @@
 -- The whole lines among the bytes that were read already: the first of them, and where there is
 -- none.
-use Rattle.std.proofs.Common.{◌≡◌, ◌⊎◌, ℕ, List, [], ◌∷◌, ◌++◌, Bool, true, false, ◌==◌, cond}
+use Rattle.std.proofs.Common.{◌≡◌, ℕ, List, [], ◌∷◌, ◌++◌, Bool, true, false, ◌==◌}
 use Rattle.std.proofs.Common.{filter, inl, inr, refl, sym, ap, ◌∙◌, subst, append_assoc}
 use Rattle.pipes_tuple.specs.declared.value.Kind.{Kind}
 use Rattle.pipes_line.specs.Bytes.{has_no_feed}
-use Rattle.pipes_line.specs.Lines.{Line, lines_of, before_lines, size_of}
+use Rattle.pipes_line.specs.Lines.{Line, lines_of, before_lines}
 use Rattle.pipes_line.specs.Reading.{TakesWaiting}
 use Rattle.pipes_line.specs.declared.reader.NextLine.TheVariants as line
 use Rattle.pipes_line.proofs.FirstLine.{first_line}
-use Rattle.pipes_feed.specs.Reached.{Reached, after_line}
+use Rattle.pipes_feed.specs.Reached.{Reached}
 use Rattle.pipes_feed.specs.Ahead.{whole_lines, ArePassed, IsPassed}
 
 abbrev wholes : List Line → List Line

@@ -5,3 +5,4 @@ pub mod State
 pub mod Ahead
 pub mod AnswersJudged
 pub mod Waiting
+pub mod Released

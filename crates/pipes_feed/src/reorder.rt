@@ -80,6 +80,7 @@ impl Reorder {
             × (items.stamp_in item ≤ floor)) }
         ensures none { IfNone result ((self.new ≡ self.old) × All (λ i. floor < items.stamp_in i)
             self.old) }
+        ensures order { ArrivalsRise self.old }
     {
         match self.waiting.front() {
             Some(first) if stamp_in(first) <= floor => self.waiting.pop_front(),
@@ -91,6 +92,7 @@ impl Reorder {
     pub fn take(&mut self) -> Option<Item>
         ensures first { IfSome result (λ item. self.old ≡ item ∷ self.new) }
         ensures none { IfNone result ((self.old ≡ []) × (self.new ≡ [])) }
+        ensures order { ArrivalsRise self.old }
     {
         self.waiting.pop_front()
     }

@@ -7,8 +7,6 @@ use Rattle.std.proofs.lemmas.List.Elements.{All-nil, All-cons}
 use Rattle.pipes_plan.proofs.PlanTyped.{flag_is}
 use Rattle.pipes_tuple.specs.declared.value.Kind.{Kind}
 use Rattle.pipes_tuple.specs.declared.value.Kind.TheVariants as kind
-use Rattle.pipes_tuple.specs.declared.value.Value.{Value}
-use Rattle.pipes_tuple.specs.Kinds.{Fits, kind_of}
 use Rattle.pipes_expr.specs.declared.expr.Expr.{Expr}
 use Rattle.pipes_plan.specs.declared.plan.Plan.TheVariants.{Source, Filter, Map}
 use Rattle.pipes_expr.specs.ExprKind.{IsTypedExpr, expr_kind, kind_in}
@@ -49,9 +47,3 @@ exprs_are_typed es s typed = each-typed es s typed.schema (map_is es s typed.sch
 pub exprs_have_width : (es : List Expr) (s : List Kind) → IsTyped (Map es (Source 0)) (s ∷ [])
     → IsWidth (length es)
 exprs_have_width es s typed = (map_is es s typed.schema (map_has_kinds es s typed)).1
-
--- over the kinds of a row that fits
-pub typed_at : (es : List Expr) (s : List Kind) (row : List Value) → Fits row s
-    → All (λ e. IsTypedExpr e s) es → All (λ e. IsTypedExpr e (map kind_of row)) es
-typed_at es s row fits typed = subst (λ (k : List Kind). All (λ e. IsTypedExpr e k) es)
-    (sym fits) typed

@@ -10,7 +10,7 @@ use Rattle.pipes_stream.specs.declared.message.Message.{Message}
 use Rattle.pipes_stream.specs.declared.message.Message.TheVariants as message
 use Rattle.pipes_stream.specs.Progress.{Progress}
 use Rattle.pipes_stream.specs.Lists.{run, start_of_list, Valid, elements}
-use Rattle.pipes_stream.specs.Lawful.{Lists, MessageFits}
+use Rattle.pipes_stream.specs.Lawful.{Lists}
 use Rattle.pipes_expr.specs.declared.expr.Expr.{Expr}
 use Rattle.pipes_expr.specs.ExprValue.{Row, passes}
 use Rattle.pipes_relation.specs.Relations.{values_of}
@@ -49,11 +49,3 @@ pub record StandsForEach (answer : Row → Option Row) (kinds : List Kind) (fail
   pub sent_valid : Valid sent
   pub sent_run : run start_of_list sent ≡ run start_of_list (taken 0)
   pub elements_are : elements sent ≡ filter_map (answered answer) (elements (taken 0))
-
--- one message was put after those that were there: what is sent for the message taken, where that
--- fits
-pub record Posts (answer : Row → Option Row) (kinds : List Kind) (m : Message)
-    (before now : List Message) : Type 0 where
-  pub message : Message
-  pub is : MessageFits m kinds → message ≡ sent_for answer m
-  pub appended : now ≡ before ++ message ∷ []

@@ -22,7 +22,7 @@ use Rattle.pipes_stream.specs.Lawful.{with_message, least, all_elements, IsCover
 use Rattle.pipes_stream.proofs.Messages.{run-push, valid-push, elements-append, beat-closed}
 use Rattle.pipes_stream.proofs.Ports.{floor-below, covered-itself}
 use Rattle.pipes_expr.specs.ExprValue.{Row}
-use Rattle.pipes_flat.specs.Each.{answered, sent_for, sent_for_elem, Posts, StandsForEach}
+use Rattle.pipes_flat.specs.Each.{answered, sent_for, sent_for_elem, StandsForEach}
 
 -- what is sent goes as far as what was taken, and may follow where that may
 elem-after : (e : Elem) (o : Option Row) (p : Progress) → after p (sent_for_elem e o) ≡ after p
@@ -117,13 +117,13 @@ each_new answer kinds watch is =
 pub each_takes : (answer : Row → Option Row) (task : Task) (failed now : Bool)
     (watch moved : Progress) (port : ℕ) (m : Message) (before later : List Message)
     → port < 1 → now ≡ false → (CanFollow watch m → moved ≡ after watch m)
-    → Posts answer (task.takes 0) m before later
+    → later ≡ before ++ sent_for answer m ∷ []
     → Takes task (StandsForEach answer (task.takes 0) failed watch)
     (StandsForEach answer (task.takes 0) now moved) port m before later
-each_takes answer task failed now watch moved port m before later small going moves posts =
+each_takes answer task failed now watch moved port m before later small going moves appended =
     record {
-      sent = posts.message ∷ [];
-      appended = posts.appended;
+      sent = sent_for answer m ∷ [];
+      appended = appended;
       stands = λ taken earlier s can.
           let first : port ≡ 0 = omega arith in
           let follows : CanFollow (run start_of_list (taken 0)) m =
@@ -132,10 +132,8 @@ each_takes answer task failed now watch moved port m before later small going mo
           first can.fits in
           let pushed = each-push answer (task.takes 0) failed watch now moved taken earlier m s
           follows fits going moves in
-          let posted = subst (λ (x : Message). StandsForEach answer (task.takes 0) now moved
-          (with_message taken 0 m) (earlier ++ x ∷ [])) (sym (posts.is fits)) pushed in
           subst (λ (k : ℕ). StandsForEach answer (task.takes 0) now moved (with_message taken k m)
-          (earlier ++ posts.message ∷ [])) (sym first) posted;
+          (earlier ++ sent_for answer m ∷ [])) (sym first) pushed;
     }
 
 pub each_beat : (answer : Row → Option Row) (kinds : List Kind) (failed : Bool) (watch : Progress)

@@ -11,7 +11,7 @@ use Rattle.pipes_expr.specs.ExprValue.{Row, passes}
 use Rattle.pipes_flat.specs.declared.filter.Filter.{Filter}
 use Rattle.pipes_flat.specs.Tasks.{filter_task}
 use Rattle.pipes_flat.specs.Typed.{ConditionOver}
-use Rattle.pipes_flat.specs.Each.{kept, Posts, StandsForEach}
+use Rattle.pipes_flat.specs.Each.{kept, sent_for, StandsForEach}
 use Rattle.pipes_flat.specs.EachLaw.{each-lawful, each_takes, each_beat}
 
 -- The elements sent are those taken whose tuple passes, in order.
@@ -47,7 +47,7 @@ filter_lawful f taken sent s =
 pub filter_takes : (old new : Filter) (port : ℕ) (m : Message) (before now : List Message)
     → new.condition ≡ old.condition → port < 1 → new.failed ≡ false
     → (CanFollow old.watch m → new.watch ≡ after old.watch m)
-    → Posts (kept old.condition.expr) old.condition.schema m before now
+    → now ≡ before ++ sent_for (kept old.condition.expr) m ∷ []
     → Takes (filter_task old.condition.expr old.condition.schema) (FilterStands old)
     (FilterStands new) port m before now
 filter_takes old new port m before now same small going moves posts =

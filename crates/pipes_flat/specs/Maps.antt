@@ -16,7 +16,7 @@ use Rattle.pipes_plan.proofs.PlanTyped.{all_kinds-cons, map_is}
 use Rattle.pipes_flat.specs.declared.map.Map.{Map}
 use Rattle.pipes_flat.specs.Tasks.{map_task}
 use Rattle.pipes_flat.specs.Typed.{ExprsOver}
-use Rattle.pipes_flat.specs.Each.{changed, Posts, StandsForEach}
+use Rattle.pipes_flat.specs.Each.{changed, sent_for, StandsForEach}
 use Rattle.pipes_flat.specs.EachLaw.{each-lawful, each_new, each_takes, each_beat}
 
 -- The elements sent are those taken, each with its row changed, in order.
@@ -78,7 +78,7 @@ map_new m exprs schema kinds typed is watch going =
 pub map_takes : (old new : Map) (port : ℕ) (m : Message) (before now : List Message)
     → new.projection ≡ old.projection → port < 1 → new.failed ≡ false
     → (CanFollow old.watch m → new.watch ≡ after old.watch m)
-    → Posts (changed old.projection.exprs) old.projection.schema m before now
+    → now ≡ before ++ sent_for (changed old.projection.exprs) m ∷ []
     → Takes (map_task old.projection.exprs old.projection.schema) (MapStands old)
     (MapStands new) port m before now
 map_takes old new port m before now same small going moves posts =

@@ -1,7 +1,6 @@
 // A condition, with the schema over which it is typed.
 ghost use Rattle.std.specs.Prelude.{◌≡◌, Some};
 ghost use Rattle.pipes_tuple.specs.declared.value.Kind.{Kind};
-ghost use Rattle.pipes_tuple.specs.Kinds.{Fits};
 ghost use Rattle.pipes_expr.specs.ExprValue.{passes};
 ghost use Rattle.pipes_expr.specs.ExprKind.{expr_kind};
 
@@ -42,13 +41,10 @@ impl Condition {
         Condition { expr, schema }
     }
 
-    // Whether the condition is true on the tuple, which fits the schema; false where it does not.
+    // Whether the condition is true on the tuple.
     pub(crate) fn holds(&self, tuple: &Tuple) -> bool
-        ensures { Fits tuple.now self.now.schema → result ≡ passes self.now.expr tuple.now }
+        ensures { result ≡ passes self.now.expr tuple.now }
     {
-        if !tuple.fits(&self.schema) {
-            return false;
-        }
         self.expr.test(tuple)
     }
 }

@@ -1,7 +1,6 @@
 // Expressions, with the schema over which they are typed.
-ghost use Rattle.std.specs.Prelude.{◌≡◌, IfOk, Some, length, map};
+ghost use Rattle.std.specs.Prelude.{◌≡◌, IfOk, length};
 ghost use Rattle.std.specs.List.{All};
-ghost use Rattle.pipes_tuple.specs.Kinds.{Fits, kind_of};
 ghost use Rattle.pipes_relation.specs.Relations.{values_of};
 ghost use Rattle.pipes_expr.specs.ExprKind.{IsTypedExpr};
 ghost use Rattle.pipes_relation.specs.Relations.{IsWidth};
@@ -41,7 +40,6 @@ impl Model for Projection {
 // The row of the expressions' values on a row.
 fn values(alloc: Global, exprs: &[Expr], row: &Tuple) -> Result<Tuple, Memory>
     requires width { IsWidth (length exprs.now) }
-    requires typed { All (λ e. IsTypedExpr e (map kind_of row.now)) exprs.now }
     ensures { IfOk result (λ tuple. tuple ≡ values_of exprs.now row.now) }
 {
     let mut list = Vec::new(alloc);
@@ -65,17 +63,10 @@ impl Projection {
         }
     }
 
-    // The row of the expressions' values on the tuple, which fits the schema; none where it does
-    // not.
-    #[tactic(auto, using(crate::proofs::Typing::typed_at))]
-    pub(crate) fn row(&self, tuple: &Tuple) -> Result<Option<Tuple>, Memory>
-        ensures { IfOk result (λ row. Fits tuple.now self.now.schema
-            → row ≡ Some (values_of self.now.exprs tuple.now)) }
+    // The row of the expressions' values on the tuple.
+    pub(crate) fn row(&self, tuple: &Tuple) -> Result<Tuple, Memory>
+        ensures { IfOk result (λ row. row ≡ values_of self.now.exprs tuple.now) }
     {
-        if !tuple.fits(&self.schema) {
-            return Ok(None);
-        }
-        let row = values(self.alloc, self.exprs.as_slice(), tuple)?;
-        Ok(Some(row))
+        values(self.alloc, self.exprs.as_slice(), tuple)
     }
 }

@@ -1,8 +1,6 @@
 // What is sent for a message.
-ghost use Rattle.std.specs.Prelude.{◌≡◌, IfOk, OnOk, OnErr};
-ghost use Rattle.pipes_stream.specs.declared.message.Message.TheVariants as messages;
-ghost use Rattle.pipes_stream.specs.Lawful.{MessageFits};
-ghost use Rattle.pipes_flat.specs.Each.{Posts, changed, kept, sent_for, sent_for_elem};
+ghost use Rattle.std.specs.Prelude.{◌≡◌, ◌++◌, ◌∷◌, [], IfOk, OnOk, OnErr};
+ghost use Rattle.pipes_flat.specs.Each.{changed, kept, sent_for, sent_for_elem};
 
 use crate::condition::Condition;
 use crate::projection::Projection;
@@ -11,8 +9,7 @@ use pipes_time::Memory;
 
 // The element where it passes the condition, and else how far its list has come.
 fn filtered_elem(condition: &Condition, elem: Elem) -> Message
-    ensures { MessageFits (messages.Elem elem) condition.now.schema
-        → result ≡ sent_for_elem elem (kept condition.now.expr elem.tuple) }
+    ensures { result ≡ sent_for_elem elem (kept condition.now.expr elem.tuple) }
 {
     if condition.holds(&elem.tuple) {
         Message::Elem(elem)
@@ -23,8 +20,7 @@ fn filtered_elem(condition: &Condition, elem: Elem) -> Message
 
 // What a filter sends for a message.
 fn filtered(condition: &Condition, message: Message) -> Message
-    ensures { MessageFits message condition.now.schema → result ≡ sent_for (kept condition.now.expr)
-        message }
+    ensures { result ≡ sent_for (kept condition.now.expr) message }
 {
     match message {
         Message::Elem(elem) => filtered_elem(condition, elem),
@@ -33,24 +29,21 @@ fn filtered(condition: &Condition, message: Message) -> Message
     }
 }
 
-// The element with its row replaced; where the row does not fit, how far its list has come.
+// The element with its row replaced.
 fn mapped_elem(projection: &Projection, elem: Elem) -> Result<Message, Memory>
-    ensures { IfOk result (λ sent. MessageFits (messages.Elem elem) projection.now.schema
-        → sent ≡ sent_for_elem elem (changed projection.now.exprs elem.tuple)) }
+    ensures { IfOk result (λ sent. sent
+        ≡ sent_for_elem elem (changed projection.now.exprs elem.tuple)) }
 {
-    match projection.row(&elem.tuple)? {
-        Some(tuple) => Ok(Message::Elem(Elem {
-            tuple,
-            span: elem.span,
-        })),
-        None => Ok(Message::Beat(elem.span.start())),
-    }
+    let tuple = projection.row(&elem.tuple)?;
+    Ok(Message::Elem(Elem {
+        tuple,
+        span: elem.span,
+    }))
 }
 
 // What a map sends for a message.
 fn mapped(projection: &Projection, message: Message) -> Result<Message, Memory>
-    ensures { IfOk result (λ sent. MessageFits message projection.now.schema
-        → sent ≡ sent_for (changed projection.now.exprs) message) }
+    ensures { IfOk result (λ sent. sent ≡ sent_for (changed projection.now.exprs) message) }
 {
     match message {
         Message::Elem(elem) => mapped_elem(projection, elem),
@@ -65,8 +58,8 @@ pub(crate) fn send_filtered(
     message: Message,
     out: &mut Vec<Message>,
 ) -> Result<(), Memory>
-    ensures sends { OnOk result (Posts (kept condition.now.expr) condition.now.schema message
-        out.old.items out.new.items) }
+    ensures sends { OnOk result (out.new.items
+        ≡ out.old.items ++ sent_for (kept condition.now.expr) message ∷ []) }
     ensures refused { OnErr result (out.new.items ≡ out.old.items) }
 {
     let sent = filtered(condition, message);
@@ -82,8 +75,8 @@ pub(crate) fn send_mapped(
     message: Message,
     out: &mut Vec<Message>,
 ) -> Result<(), Memory>
-    ensures sends { OnOk result (Posts (changed projection.now.exprs) projection.now.schema message
-        out.old.items out.new.items) }
+    ensures sends { OnOk result (out.new.items
+        ≡ out.old.items ++ sent_for (changed projection.now.exprs) message ∷ []) }
     ensures refused { OnErr result (out.new.items ≡ out.old.items) }
 {
     let sent = mapped(projection, message)?;

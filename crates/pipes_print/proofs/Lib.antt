@@ -6,3 +6,4 @@ pub mod WritableExprs
 pub mod WritablePlans
 pub mod LiteralLists
 pub mod CheckedPlans
+pub mod Lines

@@ -5,5 +5,5 @@
 mod query;
 mod script;
 
-pub use query::{ColumnNames, Query, SourceDecl, Sources};
+pub use query::{ColumnNames, Query, SourceDecl, Sources, names_of};
 pub use script::{Command, Commands, Mode, Names, Script};

@@ -1,5 +1,6 @@
 // Queries as values.
 ghost use Rattle.std.specs.Prelude.{◌≡◌, IfOk, map};
+ghost use Rattle.pipes_query.specs.Queries.{names_of};
 
 use pipes_plan::{Plan, Schemas};
 use pipes_time::Memory;
@@ -52,4 +53,15 @@ impl Query {
         }
         Ok(Schemas::new(schemas).unwrap())
     }
+}
+
+/// The names of the sources, in order.
+pub fn names_of(alloc: Global, sources: &[SourceDecl]) -> Result<Vec<Text>, Memory>
+    ensures { IfOk result (λ names. names.items ≡ names_of sources.now) }
+{
+    let mut names: Vec<Text> = Vec::new(alloc);
+    for source in sources {
+        names.push(source.name.copy()?)?;
+    }
+    Ok(names)
 }

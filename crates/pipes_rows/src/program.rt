@@ -35,7 +35,7 @@ fn files(alloc: Global, query: &str, rows: &str) -> Result<MemFiles, Fail> {
 }
 
 // Calls with these words, and compares the status, the output and the line of the fault.
-fn expect_call<R: AllocGlobal + Abort>(
+pub(crate) fn expect_call<R: AllocGlobal + Abort>(
     rt: &R,
     list: &[&str],
     mut files: MemFiles,
@@ -187,9 +187,10 @@ fn the_normal_form_before_a_refused_line(rt: HostRuntime) -> Result<(), Fail> {
 
 #[test]
 fn words_that_are_no_command(rt: HostRuntime) -> Result<(), Fail> {
-    let lists: [&[&str]; 8] = [
+    let lists: [&[&str]; 9] = [
         &[],
         &["run", "q.txt"],
+        &["derive", "q.txt"],
         &["run", "", "s.txt"],
         &["at", "q.txt", "1000000000000000"],
         &["check"],

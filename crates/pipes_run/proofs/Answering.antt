@@ -15,17 +15,18 @@ use Rattle.pipes_tuple.specs.Order.{tuple_cmp}
 use Rattle.pipes_window.specs.declared.item.Item.{Item}
 use Rattle.pipes_args.specs.Command.{At}
 use Rattle.pipes_query.specs.declared.query.Query.{Query}
-use Rattle.pipes_error.specs.Fault.{Fault, Words, QueryText, QueryType, Unbuilt, Missing, ReadFile}
+use Rattle.pipes_error.specs.Fault.{Fault, Words, QueryText, QueryType, DerivationText, Unbuilt}
+use Rattle.pipes_error.specs.Fault.{Missing, ReadFile}
 use Rattle.pipes_error.specs.Fault.{ReadSource, Row, Limit, Write, Memory}
 use Rattle.pipes_semantics.specs.Answer.{answer}
 use Rattle.pipes_time.specs.Results.{◌>>=◌}
 use Rattle.pipes_answer.specs.Whole.{whole_items}
 use Rattle.pipes_answer.specs.Lines.{tuple_lines}
 use Rattle.pipes_answer.specs.Gives.{HasAnswerCause, IsOfReading, Refuses}
-use Rattle.pipes_run.specs.Asked.{AnswerAt, job_of}
+use Rattle.pipes_run.specs.Asked.{AnswerAt, answer_job}
 use Rattle.pipes_run.specs.Outcome.{FaultCounts, DoesAsked, Does, HasCallCause, RanAfter}
 use Rattle.pipes_run.specs.Seen.{io_fault_of}
-use Rattle.pipes_run.proofs.Composing.{quiet_of}
+use Rattle.pipes_run.proofs.Composing.{quiet_of, after_by}
 
 -- the rows are the query's answer over the items of all sources
 abbrev pub AreAnswer : Query → List (List Value) → ℕ → Names → Type 0
@@ -34,8 +35,7 @@ AreAnswer query rows t files = (items : List (List Item))
 
 asked_of : (query : Query) (rows : List (List Value)) (t : ℕ) (name : List ℕ) (files : Names)
     (fault : Option Fault) (wrote : List ℕ) (is : AreAnswer query rows t files)
-    → Does (AnswerAt query is.0 t) fault wrote → DoesAsked (job_of (At name t) files query) fault
-    wrote
+    → Does (AnswerAt query is.0 t) fault wrote → DoesAsked (answer_job t files query) fault wrote
 asked_of query rows t name files fault wrote is does =
     subst (λ (asked : Result (List (List Item)) Fault). DoesAsked
     (asked >>= λ items. Ok (AnswerAt query items t)) fault wrote) (sym is.1) does
@@ -49,52 +49,31 @@ pub answered : (name : List ℕ) (query : Query) (known : Option Names) (before 
     (AppendsPrefix first last (tuple_lines rows)) → (IsErrOf done io.Failed
     → Rose before.out now.out)
     → RanAfter (At name t) query known before now first last (io_fault_of done)
-answered name query known before now first last rows t (Ok u) order are ok err cause = record {
-  wrote = tuple_lines rows;
-  appended = ok;
-  served = λ e. cc;
-  cause = tt;
-  quiet = tt;
-  does = λ files tells. let is = are files tells in asked_of query rows t name files None
-      (tuple_lines rows) is (rows, refl, order, is.2);
-}
+answered name query known before now first last rows t (Ok u) order are ok err cause =
+    after_by (At name t) query known before now first last None (tuple_lines rows)
+    (λ files. answer_job t files query) (λ files. refl) (λ files job e. e) ok (λ e. cc) tt tt
+    (λ files tells. let is = are files tells in
+    asked_of query rows t name files None (tuple_lines rows) is (rows, refl, order, is.2))
 answered name query known before now first last rows t (Err io.Failed) order are ok err cause =
-    record {
-      wrote = take err.0 (tuple_lines rows);
-      appended = err.1;
-      served = λ e. cc;
-      cause = cause refl;
-      quiet = tt;
-      does = λ files tells. let is = are files tells in asked_of query rows t name files
-          (Some Write)
-          (take err.0 (tuple_lines rows)) is (
-            tuple_lines rows,
-            err.0,
-            (rows, refl, order, is.2),
-            refl,
-          );
-    }
+    after_by (At name t) query known before now first last (Some Write)
+    (take err.0 (tuple_lines rows)) (λ files. answer_job t files query) (λ files. refl)
+    (λ files job e. e) err.1 (λ e. cc) (cause refl) tt
+    (λ files tells. let is = are files tells in
+    asked_of query rows t name files (Some Write) (take err.0 (tuple_lines rows)) is
+    (tuple_lines rows, err.0, (rows, refl, order, is.2), refl))
 answered name query known before now first last rows t (Err io.Memory) order are ok err cause =
-    record {
-      wrote = take err.0 (tuple_lines rows);
-      appended = err.1;
-      served = λ e. cc;
-      cause = tt;
-      quiet = tt;
-      does = λ files tells. let is = are files tells in asked_of query rows t name files
-          (Some Memory)
-          (take err.0 (tuple_lines rows)) is (inr (
-            tuple_lines rows,
-            err.0,
-            (rows, refl, order, is.2),
-            refl,
-          ));
-    }
+    after_by (At name t) query known before now first last (Some Memory)
+    (take err.0 (tuple_lines rows)) (λ files. answer_job t files query) (λ files. refl)
+    (λ files job e. e) err.1 (λ e. cc) tt tt
+    (λ files tells. let is = are files tells in
+    asked_of query rows t name files (Some Memory) (take err.0 (tuple_lines rows)) is
+    (inr (tuple_lines rows, err.0, (rows, refl, order, is.2), refl)))
 
 not_words : (fault : Fault) → IsOfReading fault → Some fault ≡ Some Words → ⊥
 not_words Words h e = absurd h
 not_words (QueryText r) h e = cc
 not_words (QueryType r) h e = cc
+not_words (DerivationText file r) h e = cc
 not_words Unbuilt h e = cc
 not_words (Missing name) h e = cc
 not_words (ReadFile name) h e = cc
@@ -111,6 +90,7 @@ cause_of name t before now (ReadFile file) of cause = (cause, tt)
 cause_of name t before now Words of cause = tt
 cause_of name t before now (QueryText r) of cause = tt
 cause_of name t before now (QueryType r) of cause = tt
+cause_of name t before now (DerivationText file r) of cause = tt
 cause_of name t before now Unbuilt of cause = tt
 cause_of name t before now (Missing file) of cause = tt
 cause_of name t before now (ReadSource file) of cause = absurd of
@@ -130,6 +110,7 @@ refused_asked query t (Err e) Memory of h = refl
 refused_asked query t asked Words of h = absurd of
 refused_asked query t asked (QueryText r) of h = absurd of
 refused_asked query t asked (QueryType r) of h = absurd of
+refused_asked query t asked (DerivationText file r) of h = absurd of
 refused_asked query t asked Unbuilt of h = absurd of
 refused_asked query t asked (ReadSource file) of h = absurd of
 refused_asked query t asked Write of h = absurd of
@@ -148,12 +129,9 @@ pub unanswered : (name : List ℕ) (query : Query) (known : Option Names) (befor
     → IsOfReading fault → HasAnswerCause before.files now.files fault
     → ((files : Names) → known ≡ Some files → Refuses (whole_items files query.sources) fault)
     → RanAfter (At name t) query known before now written written (Some fault)
-unanswered name query known before now written t fault of cause refuses = record {
-  wrote = [];
-  appended = Appends-nil written;
-  served = not_words fault of;
-  cause = cause_of name t before now fault of cause;
-  quiet = quiet_of fault;
-  does = λ files tells. refused_asked query t (whole_items files query.sources) fault of
-      (refuses files tells);
-}
+unanswered name query known before now written t fault of cause refuses =
+    after_by (At name t) query known before now written written (Some fault) []
+    (λ files. answer_job t files query) (λ files. refl) (λ files job e. e) (Appends-nil written)
+    (not_words fault of) (cause_of name t before now fault of cause) (quiet_of fault)
+    (λ files tells. refused_asked query t (whole_items files query.sources) fault of
+    (refuses files tells))

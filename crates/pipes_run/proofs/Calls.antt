@@ -11,9 +11,10 @@ use Rattle.pipes_feed.specs.declared.reason.Reason.{Reason}
 use Rattle.pipes_feed.specs.declared.reason.Reason.TheVariants as reason
 use Rattle.pipes_feed.specs.Items.{Items}
 use Rattle.pipes_query.specs.declared.query.SourceDecl.{SourceDecl}
-use Rattle.pipes_error.specs.Fault.{Fault, Words, QueryText, QueryType, Unbuilt, Missing, ReadFile}
+use Rattle.pipes_error.specs.Fault.{Fault, Words, QueryText, QueryType, DerivationText, Unbuilt}
+use Rattle.pipes_error.specs.Fault.{Missing, ReadFile}
 use Rattle.pipes_error.specs.Fault.{ReadSource, Row, Limit, Write, Memory, status_of, WritesLine}
-use Rattle.pipes_run.specs.Asked.{Job, RunOver, AnswerAt, PrintOf, AsksWords}
+use Rattle.pipes_run.specs.Asked.{Job, RunOver, AnswerAt, PrintOf, DeriveBy, AsksWords}
 use Rattle.pipes_run.specs.Outcome.{FaultCounts, Does, DoesAsked, HasCallCause, StopsFirst}
 use Rattle.pipes_run.specs.Outcome.{StoppedAt}
 use Rattle.pipes_run.specs.Outcome.{AllEnd, IsWhole, IsComplete, RanCommand, DidCommand}
@@ -115,38 +116,64 @@ finishes command before now (AnswerAt query items t) (Row source line why) wrote
     files out = absurd does
 finishes command before now (AnswerAt query items t) (Limit source line) wrote whole cause does
     files out = absurd does
-finishes command before now (PrintOf query) (Row source line why) wrote whole cause does files out =
-    absurd does
-finishes command before now (PrintOf query) (Limit source line) wrote whole cause does files out =
-    absurd does
-finishes command before now (RunOver form query items) Words wrote whole cause does files out =
-    absurd does
-finishes command before now (AnswerAt query items t) Words wrote whole cause does files out =
-    absurd does
-finishes command before now (PrintOf query) Words wrote whole cause does files out = absurd does
+finishes command before now (RunOver form query items) Words wrote whole cause does files
+    out = absurd does
 finishes command before now (RunOver form query items) (QueryText r) wrote whole cause does files
+    out = absurd does
+finishes command before now (RunOver form query items) (QueryType r) wrote whole cause does files
+    out = absurd does
+finishes command before now (RunOver form query items) (DerivationText file r) wrote whole cause
+    does files
+    out = absurd does
+finishes command before now (RunOver form query items) Unbuilt wrote whole cause does files
+    out = absurd does
+finishes command before now (RunOver form query items) (Missing name) wrote whole cause does files
+    out = absurd does
+finishes command before now (AnswerAt query items t) Words wrote whole cause does files
     out = absurd does
 finishes command before now (AnswerAt query items t) (QueryText r) wrote whole cause does files
     out = absurd does
-finishes command before now (PrintOf query) (QueryText r) wrote whole cause does files out =
-    absurd does
-finishes command before now (RunOver form query items) (QueryType r) wrote whole cause does files
-    out = absurd does
 finishes command before now (AnswerAt query items t) (QueryType r) wrote whole cause does files
     out = absurd does
-finishes command before now (PrintOf query) (QueryType r) wrote whole cause does files out =
-    absurd does
-finishes command before now (RunOver form query items) Unbuilt wrote whole cause does files out =
-    absurd does
-finishes command before now (AnswerAt query items t) Unbuilt wrote whole cause does files out =
-    absurd does
-finishes command before now (PrintOf query) Unbuilt wrote whole cause does files out = absurd does
-finishes command before now (RunOver form query items) (Missing name) wrote whole cause does files
+finishes command before now (AnswerAt query items t) (DerivationText file r) wrote whole cause does
+    files
+    out = absurd does
+finishes command before now (AnswerAt query items t) Unbuilt wrote whole cause does files
     out = absurd does
 finishes command before now (AnswerAt query items t) (Missing name) wrote whole cause does files
     out = absurd does
-finishes command before now (PrintOf query) (Missing name) wrote whole cause does files out =
-    absurd does
+finishes command before now (PrintOf query) (Row source line why) wrote whole cause does files
+    out = absurd does
+finishes command before now (PrintOf query) (Limit source line) wrote whole cause does files
+    out = absurd does
+finishes command before now (PrintOf query) Words wrote whole cause does files
+    out = absurd does
+finishes command before now (PrintOf query) (QueryText r) wrote whole cause does files
+    out = absurd does
+finishes command before now (PrintOf query) (QueryType r) wrote whole cause does files
+    out = absurd does
+finishes command before now (PrintOf query) (DerivationText file r) wrote whole cause does files
+    out = absurd does
+finishes command before now (PrintOf query) Unbuilt wrote whole cause does files
+    out = absurd does
+finishes command before now (PrintOf query) (Missing name) wrote whole cause does files
+    out = absurd does
+finishes command before now (DeriveBy query d) (Row source line why) wrote whole cause does files
+    out = absurd does
+finishes command before now (DeriveBy query d) (Limit source line) wrote whole cause does files
+    out = absurd does
+finishes command before now (DeriveBy query d) Words wrote whole cause does files
+    out = absurd does
+finishes command before now (DeriveBy query d) (QueryText r) wrote whole cause does files
+    out = absurd does
+finishes command before now (DeriveBy query d) (QueryType r) wrote whole cause does files
+    out = absurd does
+finishes command before now (DeriveBy query d) (DerivationText file r) wrote whole cause does files
+    out = absurd does
+finishes command before now (DeriveBy query d) Unbuilt wrote whole cause does files
+    out = absurd does
+finishes command before now (DeriveBy query d) (Missing name) wrote whole cause does files
+    out = absurd does
 
 pub complete : (words : List (List ℕ)) (known : Option Names) (before now : FaultCounts)
     (first last : Option (List ℕ)) (fault : Fault) (status : ℕ) → status ≡ status_of (Some fault)

@@ -1,14 +1,16 @@
 -- What a command has done, from what its steps have done.
 use Rattle.std.proofs.Common.{◌≡◌, ◌⊎◌, ℕ, ◌≤◌, List, [], Option, Some, None, Result, Ok, Err, refl}
 use Rattle.std.proofs.Common.{sym, subst, ◌∙◌, inl, inr}
+use Rattle.std.specs.Io.KnownBytes.{Appends}
 use Rattle.std.proofs.KnownBytes.{Appends-nil}
 use Rattle.pipes_edge.specs.Outside.{Names, NoneFalls}
 use Rattle.pipes_edge.specs.Causes.{Rose}
-use Rattle.pipes_args.specs.Command.{Command, Run, At, Check}
+use Rattle.pipes_args.specs.Command.{Command, Run, At, Check, Derive}
 use Rattle.pipes_query.specs.declared.query.Query.{Query}
-use Rattle.pipes_error.specs.Fault.{Fault, Words, QueryText, QueryType, Unbuilt, Missing, ReadFile}
+use Rattle.pipes_error.specs.Fault.{Fault, Words, QueryText, QueryType, DerivationText, Unbuilt}
+use Rattle.pipes_error.specs.Fault.{Missing, ReadFile}
 use Rattle.pipes_error.specs.Fault.{ReadSource, Row, Limit, Write, Memory}
-use Rattle.pipes_run.specs.Asked.{Job, IsQueryFile, Asks, job_of, query_name}
+use Rattle.pipes_run.specs.Asked.{Job, IsQueryFile, Asks, IsJobOf, query_name}
 use Rattle.pipes_run.specs.Outcome.{FaultCounts, HasCallCause, WritesNothing, StopsFirst, Does}
 use Rattle.pipes_run.specs.Outcome.{DoesAsked, IsEarly}
 use Rattle.pipes_run.specs.Outcome.{RanCommand, RanAfter}
@@ -20,6 +22,7 @@ pub quiet_of : (fault : Fault) → WritesNothing (Some fault) []
 quiet_of Words = refl
 quiet_of (QueryText r) = refl
 quiet_of (QueryType r) = refl
+quiet_of (DerivationText file r) = refl
 quiet_of Unbuilt = refl
 quiet_of (Missing name) = refl
 quiet_of (ReadFile name) = refl
@@ -33,6 +36,7 @@ not_words : (fault : Fault) → IsOfQuery fault → Some fault ≡ Some Words �
 not_words Words h e = absurd h
 not_words (QueryText r) h e = cc
 not_words (QueryType r) h e = cc
+not_words (DerivationText file r) h e = cc
 not_words Unbuilt h e = cc
 not_words (Missing name) h e = cc
 not_words (ReadFile name) h e = cc
@@ -42,10 +46,11 @@ not_words (Limit source line) h e = cc
 not_words Write h e = cc
 not_words Memory h e = cc
 
-stops : (fault : Fault) → IsFree fault → StopsFirst (Some fault) []
+pub stops : (fault : Fault) → IsFree fault → StopsFirst (Some fault) []
 stops Words h = absurd h
 stops (QueryText r) h = absurd h
 stops (QueryType r) h = absurd h
+stops (DerivationText file r) h = absurd h
 stops Unbuilt h = absurd h
 stops (Missing name) h = absurd h
 stops (ReadFile name) h = refl
@@ -60,6 +65,7 @@ asked_fault : (fault : Fault) → IsOfQuery fault → DoesAsked (Err fault) (Som
 asked_fault Words h = absurd h
 asked_fault (QueryText r) h = (refl, refl)
 asked_fault (QueryType r) h = (refl, refl)
+asked_fault (DerivationText file r) h = (refl, refl)
 asked_fault Unbuilt h = absurd h
 asked_fault (Missing name) h = (refl, refl)
 asked_fault (ReadFile name) h = refl
@@ -120,22 +126,46 @@ ran_after command query known before now written_before written_now fault holds 
   served = ran.served;
   cause = ran.cause;
   quiet = ran.quiet;
-  does = λ files tells. inr (
-    job_of command files query,
-    (Ok query, holds files tells, refl),
-    ran.does files tells,
-  );
+  does = λ files tells. does files tells (ran.does files tells);
   only = λ files job tells asks. only_job files job tells asks;
 }
   where
+    does : (files : Names) → known ≡ Some files → StopsFirst fault ran.wrote
+        ⊎ ((job : Result Job Fault) × IsJobOf command files query job
+        × DoesAsked job fault ran.wrote)
+        → StopsFirst fault ran.wrote
+        ⊎ ((job : Result Job Fault) × Asks command files job × DoesAsked job fault ran.wrote)
+    does files tells (inl stopped) = inl stopped
+    does files tells (inr w) = inr (w.0, (Ok query, holds files tells, w.1), w.2)
+
     only_job : (files : Names) (job : Job) → known ≡ Some files → Asks command files (Ok job)
         → Does job fault ran.wrote
     only_job files job tells (Ok other, held, is) =
-        let same : job_of command files query ≡ Ok job = subst
-        (λ (q : Query). job_of command files q ≡ Ok job) (sym (only files other tells held))
-        (sym is) in
-        subst (λ (j : Result Job Fault). DoesAsked j fault ran.wrote) same (ran.does files tells)
+        ran.only files job tells (subst (λ (q : Query). IsJobOf command files q (Ok job))
+        (sym (only files other tells held)) is)
     only_job files job tells (Err refused, held, is) = cc
+
+-- what a command does whose job the files alone decide
+pub after_by : (command : Command) (query : Query) (known : Option Names)
+    (before now : FaultCounts) (first last : Option (List ℕ)) (fault : Option Fault)
+    (wrote : List ℕ) (asked : Names → Result Job Fault)
+    → ((files : Names) → IsJobOf command files query (asked files))
+    → ((files : Names) (job : Job) → IsJobOf command files query (Ok job) → Ok job ≡ asked files)
+    → Appends first last wrote → (fault ≡ Some Words → ⊥)
+    → HasCallCause (Some command) before now fault → WritesNothing fault wrote
+    → ((files : Names) → known ≡ Some files → DoesAsked (asked files) fault wrote)
+    → RanAfter command query known before now first last fault
+after_by command query known before now first last fault wrote asked is unique appended served
+    cause quiet does = record {
+      wrote = wrote;
+      appended = appended;
+      served = served;
+      cause = cause;
+      quiet = quiet;
+      does = λ files tells. inr (asked files, is files, does files tells);
+      only = λ files job tells h. subst (λ (j : Result Job Fault). DoesAsked j fault wrote)
+          (sym (unique files job h)) (does files tells);
+    }
 
 -- ---- the counts of a call whose first step reads its query
 
@@ -148,9 +178,12 @@ query_cause (At name t) before now (ReadFile file) of cause =
     (subst (λ (f : List ℕ). Rose (before.files f) (now.files f)) (sym cause.0) cause.1, tt)
 query_cause (Check name) before now (ReadFile file) of cause =
     (subst (λ (f : List ℕ). Rose (before.files f) (now.files f)) (sym cause.0) cause.1, tt)
+query_cause (Derive name derivation) before now (ReadFile file) of cause =
+    (subst (λ (f : List ℕ). Rose (before.files f) (now.files f)) (sym cause.0) cause.1, tt)
 query_cause command before now Words of cause = tt
 query_cause command before now (QueryText r) of cause = tt
 query_cause command before now (QueryType r) of cause = tt
+query_cause command before now (DerivationText file r) of cause = tt
 query_cause command before now Unbuilt of cause = tt
 query_cause command before now (Missing name) of cause = tt
 query_cause command before now (ReadSource name) of cause = absurd of
@@ -187,6 +220,7 @@ early_before (Run query script form) name before mid now later (inr (inr rose)) 
     inr (inr (rose_before before mid now later rose))
 early_before (At query t) name before mid now later h = tt
 early_before (Check query) name before mid now later h = tt
+early_before (Derive query derivation) name before mid now later h = tt
 
 cause_before : (command : Command) (before mid now : FaultCounts) (fault : Option Fault)
     → NoneFalls before.files mid.files → before.searches ≤ mid.searches → before.out ≡ mid.out
@@ -202,6 +236,7 @@ cause_before command before mid now (Some Write) later searches same cause =
 cause_before command before mid now (Some Words) later searches same cause = tt
 cause_before command before mid now (Some (QueryText r)) later searches same cause = tt
 cause_before command before mid now (Some (QueryType r)) later searches same cause = tt
+cause_before command before mid now (Some (DerivationText file r)) later searches same cause = tt
 cause_before command before mid now (Some Unbuilt) later searches same cause = tt
 cause_before command before mid now (Some (Missing file)) later searches same cause = tt
 cause_before command before mid now (Some (Row source line why)) later searches same cause = tt
@@ -229,4 +264,5 @@ ran_read command query known mid_known before mid now first last fault same late
       cause = cause_before command before mid now fault later searches out ran.cause;
       quiet = ran.quiet;
       does = λ files tells. ran.does files (same ∙ tells);
+      only = λ files job tells. ran.only files job (same ∙ tells);
     })

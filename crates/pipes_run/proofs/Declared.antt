@@ -1,5 +1,5 @@
--- The windows of a query that a text writes keep their limits.
-use Rattle.std.proofs.Common.{List, []}
+-- What the sources of a query that a text writes are: some, with a name, and windows within limits.
+use Rattle.std.proofs.Common.{◌≤◌, List, [], length}
 use Rattle.std.specs.List.{All}
 use Rattle.std.proofs.lemmas.List.Elements.{All-nil, All-cons}
 use Rattle.pipes_token.specs.declared.token.TokenKind.{TokenKind}
@@ -7,8 +7,11 @@ use Rattle.pipes_window.specs.declared.kind.WindowKind.{WindowKind}
 use Rattle.pipes_window.specs.Windows.{IsWindow}
 use Rattle.pipes_query.specs.declared.query.Query.{Query}
 use Rattle.pipes_query.specs.declared.query.SourceDecl.{SourceDecl}
+use Rattle.pipes_query.specs.Queries.{names_of}
+use Rattle.pipes_grammar.specs.Grammar.{HasSourceName}
 use Rattle.pipes_text.specs.Grammar.{IsWindowText, time, slide, count, IsSource, source, AreSources}
 use Rattle.pipes_text.specs.Grammar.{last, more, IsQuery, query}
+use Rattle.pipes_text.proofs.QueryTexts.{query_some, query_named}
 use Rattle.pipes_run.specs.Seen.{HasQueryText}
 
 window_within : (kind : WindowKind) (ks : List TokenKind) → IsWindowText kind ks → IsWindow kind
@@ -30,6 +33,14 @@ sources_within sources ks (more s ss prefix back h others) = All-cons
 query_within : (q : Query) (ks : List TokenKind) → IsQuery q ks
     → All (λ (s : SourceDecl). IsWindow s.window) q.sources
 query_within q ks (query p ss ps sources plan) = sources_within p.sources ss sources
+
+-- a query that a text writes declares a source
+pub sources_some : (q : Query) → HasQueryText q → 1 ≤ length q.sources
+sources_some q text = query_some text.0 q text.1
+
+-- one of its sources has a name that texts have
+pub sources_known : (q : Query) → HasQueryText q → HasSourceName (names_of q.sources)
+sources_known q text = query_named text.0 q text.1
 
 pub windows_within : (q : Query) → HasQueryText q → All (λ (s : SourceDecl). IsWindow s.window)
     q.sources

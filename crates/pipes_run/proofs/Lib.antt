@@ -10,3 +10,4 @@ pub mod Scripts
 pub mod Sources
 pub mod Checking
 pub mod Calls
+pub mod Deriving

@@ -11,7 +11,8 @@ use Rattle.pipes_text.specs.Texts.{IsFileOfQuery}
 use Rattle.pipes_reader.specs.Texts.{too_long, tokens}
 use Rattle.pipes_text.specs.Texts.{IsRefusedQuery}
 use Rattle.pipes_semantics.specs.Answer.{schemas_of}
-use Rattle.pipes_error.specs.Fault.{Fault, Words, QueryText, QueryType, Unbuilt, Missing, ReadFile}
+use Rattle.pipes_error.specs.Fault.{Fault, Words, QueryText, QueryType, DerivationText, Unbuilt}
+use Rattle.pipes_error.specs.Fault.{Missing, ReadFile}
 use Rattle.pipes_error.specs.Fault.{ReadSource, Row, Limit, Write, Memory, fault_seen}
 use Rattle.pipes_run.specs.declared.query.CheckedQuery.{CheckedQuery}
 use Rattle.pipes_error.specs.declared.Fault.{Fault as Kept}
@@ -50,6 +51,7 @@ writes_whole whole bytes (Err (QueryText refusal)) reads h =
 writes_whole whole bytes (Err (QueryType refusal)) reads h =
     (h.0, file_whole whole bytes h.0 reads h.1, h.2)
 writes_whole whole bytes (Err Words) reads h = absurd h
+writes_whole whole bytes (Err (DerivationText file r)) reads h = absurd h
 writes_whole whole bytes (Err Unbuilt) reads h = absurd h
 writes_whole whole bytes (Err (Missing name)) reads h = absurd h
 writes_whole whole bytes (Err (ReadFile name)) reads h = absurd h
@@ -87,6 +89,7 @@ checked_fault bytes query (QueryType refusal) file h = inl (query, file, h)
 checked_fault bytes query Memory file h = inr tt
 checked_fault bytes query Words file h = absurd h
 checked_fault bytes query (QueryText r) file h = absurd h
+checked_fault bytes query (DerivationText name r) file h = absurd h
 checked_fault bytes query Unbuilt file h = absurd h
 checked_fault bytes query (Missing name) file h = absurd h
 checked_fault bytes query (ReadFile name) file h = absurd h
@@ -115,6 +118,7 @@ free_refusal query (QueryType refusal) checks h =
 free_refusal query Memory checks h = tt
 free_refusal query Words checks h = absurd h
 free_refusal query (QueryText r) checks h = absurd h
+free_refusal query (DerivationText file r) checks h = absurd h
 free_refusal query Unbuilt checks h = absurd h
 free_refusal query (Missing name) checks h = absurd h
 free_refusal query (ReadFile name) checks h = absurd h

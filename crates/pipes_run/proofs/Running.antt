@@ -13,7 +13,8 @@ use Rattle.pipes_feed.specs.Items.{Items, items_of, arrivals_of}
 use Rattle.pipes_feed.proofs.Order.{items-in_order}
 use Rattle.pipes_query.specs.declared.query.Query.{Query}
 use Rattle.pipes_query.specs.declared.query.SourceDecl.{SourceDecl}
-use Rattle.pipes_error.specs.Fault.{Fault, Words, QueryText, QueryType, Unbuilt, Missing, ReadFile}
+use Rattle.pipes_error.specs.Fault.{Fault, Words, QueryText, QueryType, DerivationText, Unbuilt}
+use Rattle.pipes_error.specs.Fault.{Missing, ReadFile}
 use Rattle.pipes_error.specs.Fault.{ReadSource, Row, Limit, Write, Memory}
 use Rattle.pipes_single.specs.declared.RunFault.{RunFault}
 use Rattle.pipes_single.specs.declared.RunFault.TheVariants as run
@@ -94,6 +95,7 @@ free_asked (Err refused) (ReadFile name) h = refl
 free_asked (Err refused) Words h = absurd h
 free_asked (Err refused) (QueryText r) h = absurd h
 free_asked (Err refused) (QueryType r) h = absurd h
+free_asked (Err refused) (DerivationText file r) h = absurd h
 free_asked (Err refused) Unbuilt h = absurd h
 free_asked (Err refused) (Missing name) h = absurd h
 free_asked (Err refused) (ReadSource name) h = absurd h
@@ -209,6 +211,7 @@ over_free form query known before now written fault free cause = record {
     of Words h = absurd h
     of (QueryText r) h = absurd h
     of (QueryType r) h = absurd h
+    of (DerivationText file r) h = absurd h
     of Unbuilt h = absurd h
     of (Missing name) h = tt
     of (ReadSource name) h = tt
@@ -222,6 +225,7 @@ over_free form query known before now written fault free cause = record {
     quiet Words h = refl
     quiet (QueryText r) h = refl
     quiet (QueryType r) h = refl
+    quiet (DerivationText file r) h = refl
     quiet Unbuilt h = refl
     quiet (Missing name) h = refl
     quiet (ReadSource name) h = tt

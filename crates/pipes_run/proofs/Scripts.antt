@@ -1,5 +1,6 @@
 -- A run, from what its script and its sources gave.
-use Rattle.std.proofs.Common.{◌≡◌, ◌⊎◌, ℕ, ◌≤◌, List, [], true, Option, Some, None, Result, Ok, Err}
+use Rattle.std.proofs.Common.{◌≡◌, ◌⊎◌, ℕ, ◌≤◌, List, [], true, false, Option, Some, None, Result}
+use Rattle.std.proofs.Common.{Ok, Err}
 use Rattle.std.proofs.Common.{refl, sym, subst, ◌∙◌, inl, inr}
 use Rattle.std.proofs.KnownBytes.{Appends-nil}
 use Rattle.pipes_edge.specs.Outside.{Names, NoneFalls}
@@ -7,22 +8,23 @@ use Rattle.pipes_edge.specs.Causes.{Rose}
 use Rattle.pipes_output.specs.declared.form.Form.{Form}
 use Rattle.pipes_args.specs.Command.{Run}
 use Rattle.pipes_query.specs.declared.query.Query.{Query}
-use Rattle.pipes_error.specs.Fault.{Fault, Words, QueryText, QueryType, Unbuilt, Missing, ReadFile}
+use Rattle.pipes_error.specs.Fault.{Fault, Words, QueryText, QueryType, DerivationText, Unbuilt}
+use Rattle.pipes_error.specs.Fault.{Missing, ReadFile}
 use Rattle.pipes_error.specs.Fault.{ReadSource, Row, Limit, Write, Memory}
 use Rattle.pipes_single.specs.Served.{is_served}
 use Rattle.pipes_time.specs.Results.{◌>>=◌}
-use Rattle.pipes_run.specs.Asked.{Job, RunOver, items_in, job_of, is_empty_script}
+use Rattle.pipes_run.specs.Asked.{Job, RunOver, items_in, run_job, is_empty_script}
 use Rattle.pipes_run.specs.Outcome.{FaultCounts, DoesAsked, HasCallCause, RanAfter}
 use Rattle.pipes_run.specs.Running.{RanOver, HasCauseOver, IsOfScript, IsOfRun}
 use Rattle.pipes_run.specs.Seen.{IsFree, IsReadOf}
 use Rattle.pipes_run.proofs.Causes.{rose_before}
-use Rattle.pipes_run.proofs.Composing.{quiet_of}
+use Rattle.pipes_run.proofs.Composing.{quiet_of, after_by}
 use Rattle.pipes_run.proofs.Running.{free_asked}
 
 asked_by : (name script : List ℕ) (form : Form) (files : Names) (query : Query)
     (given : Result (Unit {0}) Fault) → is_served query ≡ true
     → is_empty_script files script ≡ given
-    → job_of (Run name script form) files query ≡ (given >>= λ one. items_in files query.sources
+    → run_job script form files query ≡ (given >>= λ one. items_in files query.sources
     >>= λ items. Ok (RunOver form query items))
 asked_by name script form files query given served is = rw (served, is) refl
 
@@ -32,6 +34,7 @@ not_words : (fault : Fault) → IsOfScript fault → Some fault ≡ Some Words �
 not_words Words h e = absurd h
 not_words (QueryText r) h e = cc
 not_words (QueryType r) h e = cc
+not_words (DerivationText file r) h e = cc
 not_words Unbuilt h e = cc
 not_words (Missing name) h e = cc
 not_words (ReadFile name) h e = cc
@@ -51,6 +54,7 @@ script_cause name script form before now (ReadFile file) of cause = (
 script_cause name script form before now Words of cause = tt
 script_cause name script form before now (QueryText r) of cause = tt
 script_cause name script form before now (QueryType r) of cause = tt
+script_cause name script form before now (DerivationText file r) of cause = tt
 script_cause name script form before now Unbuilt of cause = tt
 script_cause name script form before now (Missing file) of cause = tt
 script_cause name script form before now (ReadSource file) of cause = absurd of
@@ -63,6 +67,7 @@ refused_asked : (fault : Fault) → IsOfScript fault → DoesAsked (Err fault) (
 refused_asked Words h = absurd h
 refused_asked (QueryText r) h = absurd h
 refused_asked (QueryType r) h = absurd h
+refused_asked (DerivationText file r) h = absurd h
 refused_asked Unbuilt h = (refl, refl)
 refused_asked (Missing name) h = (refl, refl)
 refused_asked (ReadFile name) h = refl
@@ -79,20 +84,17 @@ pub script_refused : (name script : List ℕ) (form : Form) (query : Query) (kno
     ⊎ IsFree fault)
     → RanAfter (Run name script form) query known before now written written (Some fault)
 script_refused name script form query known before now written fault served of cause gives =
-    record {
-      wrote = [];
-      appended = Appends-nil written;
-      served = not_words fault of;
-      cause = script_cause name script form before now fault of cause;
-      quiet = quiet_of fault;
-      does = λ files tells. does files (gives files tells);
-    }
+    after_by (Run name script form) query known before now written written (Some fault) []
+    (λ files. run_job script form files query) (λ files. refl) (λ files job e. e)
+    (Appends-nil written) (not_words fault of)
+    (script_cause name script form before now fault of cause) (quiet_of fault)
+    (λ files tells. does files (gives files tells))
   where
     does : (files : Names) → (is_empty_script files script ≡ Err fault) ⊎ IsFree fault
-        → DoesAsked (job_of (Run name script form) files query) (Some fault) []
+        → DoesAsked (run_job script form files query) (Some fault) []
     does files (inl is) = subst (λ (asked : Result Job Fault). DoesAsked asked (Some fault) [])
         (sym (asked_by name script form files query (Err fault) served is)) (refused_asked fault of)
-    does files (inr free) = free_asked (job_of (Run name script form) files query) fault free
+    does files (inr free) = free_asked (run_job script form files query) fault free
 
 -- ---- the script is empty
 
@@ -114,6 +116,8 @@ run_cause name script form before mid now (Some Write) later searches same cause
 run_cause name script form before mid now (Some Words) later searches same cause = tt
 run_cause name script form before mid now (Some (QueryText r)) later searches same cause = tt
 run_cause name script form before mid now (Some (QueryType r)) later searches same cause = tt
+run_cause name script form before mid now (Some (DerivationText file r)) later searches same cause =
+    tt
 run_cause name script form before mid now (Some Unbuilt) later searches same cause = tt
 run_cause name script form before mid now (Some (Missing file)) later searches same cause = tt
 run_cause name script form before mid now (Some (Row source line why)) later searches same cause =
@@ -121,3 +125,35 @@ run_cause name script form before mid now (Some (Row source line why)) later sea
 run_cause name script form before mid now (Some (Limit source line)) later searches same cause = tt
 run_cause name script form before mid now (Some Memory) later searches same cause = tt
 run_cause name script form before mid now None later searches same cause = tt
+
+-- the plan isn't served
+pub not_served : (name script : List ℕ) (form : Form) (query : Query) (known : Option Names)
+    (before now : FaultCounts) (written : Option (List ℕ)) → is_served query ≡ false
+    → RanAfter (Run name script form) query known before now written written (Some Unbuilt)
+not_served name script form query known before now written none =
+    after_by (Run name script form) query known before now written written (Some Unbuilt) []
+    (λ files. run_job script form files query) (λ files. refl) (λ files job e. e)
+    (Appends-nil written) (λ e. cc) tt refl
+    (λ files tells. subst (λ (asked : Result Job Fault). DoesAsked asked (Some Unbuilt) [])
+    (sym (refused files)) (refl, refl))
+  where
+    refused : (files : Names) → run_job script form files query ≡ Err Unbuilt
+    refused files = rw none refl
+
+-- the script is empty, and the query was run
+pub script_run : (name script : List ℕ) (form : Form) (query : Query)
+    (known mid_known : Option Names) (before mid now : FaultCounts) (first last : Option (List ℕ))
+    (fault : Option Fault) → is_served query ≡ true → mid_known ≡ known
+    → NoneFalls before.files mid.files → before.searches ≤ mid.searches → before.out ≡ mid.out
+    → ((files : Names) → known ≡ Some files → is_empty_script files script ≡ Ok tt)
+    → RanOver form query mid_known mid now first last fault
+    → RanAfter (Run name script form) query known before now first last fault
+script_run name script form query known mid_known before mid now first last fault served same later
+    searches out empty ran =
+    after_by (Run name script form) query known before now first last fault ran.wrote
+    (λ files. run_job script form files query) (λ files. refl) (λ files job e. e) ran.appended
+    (run_not_words fault ran.served)
+    (run_cause name script form before mid now fault later searches out ran.cause) ran.quiet
+    (λ files tells. subst (λ (asked : Result Job Fault). DoesAsked asked fault ran.wrote)
+    (sym (asked_by name script form files query (Ok tt) served (empty files tells)))
+    (ran.does files (same ∙ tells)))

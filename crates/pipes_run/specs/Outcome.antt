@@ -1,6 +1,7 @@
 -- What a call does: the fault that it ends with, what it writes, and what it says of the fault.
 use Rattle.std.specs.Prelude.{◌≡◌, ◌⊎◌, ◌↔◌, ℕ, List, [], ◌∷◌, ◌++◌, take, map, flat_map, Option}
 use Rattle.std.specs.Prelude.{Some, None, Result, Ok, Err, ⊤, codes}
+use Rattle.std.specs.Fmt.{decimal}
 use Rattle.std.specs.List.{All}
 use Rattle.std.specs.List.Sorted.{IsSorted}
 use Rattle.std.specs.Io.KnownBytes.{Appends}
@@ -20,13 +21,17 @@ use Rattle.pipes_feed.specs.Items.{Items}
 use Rattle.pipes_query.specs.declared.query.Query.{Query}
 use Rattle.pipes_query.specs.declared.query.SourceDecl.{SourceDecl}
 use Rattle.pipes_text.specs.Printing.{query_text}
-use Rattle.pipes_semantics.specs.Answer.{answer, schema_of}
+use Rattle.pipes_rules.specs.Stepping.{Derives, FailsAt}
+use Rattle.pipes_derivation.specs.declared.derivation.Derivation.{Derivation}
+use Rattle.pipes_semantics.specs.Answer.{answer, schema_of, schemas_of}
 use Rattle.pipes_semantics.specs.Run.{WritesRun, WritesRunPrefix}
 use Rattle.pipes_answer.specs.Lines.{tuple_lines}
-use Rattle.pipes_error.specs.Fault.{Fault, Words, QueryText, QueryType, Unbuilt, Missing, ReadFile}
+use Rattle.pipes_error.specs.Fault.{Fault, Words, QueryText, QueryType, DerivationText, Unbuilt}
+use Rattle.pipes_error.specs.Fault.{Missing, ReadFile}
 use Rattle.pipes_error.specs.Fault.{ReadSource, Row, Limit, Write, Memory, status_of, fault_line}
 use Rattle.pipes_error.specs.Fault.{Given, WritesLine}
-use Rattle.pipes_run.specs.Asked.{Job, RunOver, AnswerAt, PrintOf, job_of, AsksWords, Asks}
+use Rattle.pipes_run.specs.Asked.{Job, RunOver, AnswerAt, PrintOf, DeriveBy, IsJobOf, AsksWords}
+use Rattle.pipes_run.specs.Asked.{Asks}
 
 abbrev pub kind_part : Kind → List ℕ
 kind_part kind = codes " " ++ kind_word kind
@@ -69,6 +74,14 @@ abbrev pub WritesAnswer : Query → List (List Item) → ℕ → List ℕ → Ty
 WritesAnswer query items t bytes = (rows : List (List Value)) × (bytes ≡ tuple_lines rows)
     × IsSorted tuple_cmp rows × SameBag rows (answer query items t)
 
+-- what a derivation writes: that it leads to its plan from the query's, or the number of the first
+-- step that is refused, which is one more than the last one's where the steps make another plan
+abbrev pub IsVerdict : Query → Derivation → List ℕ → Type 0
+IsVerdict query d bytes =
+    ((bytes ≡ codes "derived\n") × Derives (schemas_of query) query.plan d.steps d.plan)
+    ⊎ ((n : ℕ) × (bytes ≡ codes "steps " ++ decimal n ++ codes "\n")
+    × FailsAt (schemas_of query) query.plan d.steps d.plan 1 n)
+
 -- a job that was done, or stopped by a fault, and what it has written then
 abbrev pub Does : Job → Option Fault → List ℕ → Type 0
 Does (RunOver form query items) None bytes = AllEnd items × WritesRun form query (lists_of items)
@@ -96,6 +109,11 @@ Does (AnswerAt query items t) (Some Memory) bytes = (bytes ≡ [])
 Does (PrintOf query) None bytes = bytes ≡ checked_text query
 Does (PrintOf query) (Some Write) bytes = (n : ℕ) × (bytes ≡ take n (checked_text query))
 Does (PrintOf query) (Some Memory) bytes = (n : ℕ) × (bytes ≡ take n (checked_text query))
+Does (DeriveBy query d) None bytes = IsVerdict query d bytes
+Does (DeriveBy query d) (Some Write) bytes = (whole : List ℕ) × (n : ℕ) × IsVerdict query d whole
+    × (bytes ≡ take n whole)
+Does (DeriveBy query d) (Some Memory) bytes = (bytes ≡ [])
+    ⊎ ((whole : List ℕ) × (n : ℕ) × IsVerdict query d whole × (bytes ≡ take n whole))
 Does job (Some (ReadFile name)) bytes = bytes ≡ []
 Does job fault bytes = ⊥
 
@@ -142,6 +160,7 @@ abbrev pub WritesNothing : Option Fault → List ℕ → Type 0
 WritesNothing (Some Words) bytes = bytes ≡ []
 WritesNothing (Some (QueryText refusal)) bytes = bytes ≡ []
 WritesNothing (Some (QueryType refusal)) bytes = bytes ≡ []
+WritesNothing (Some (DerivationText name refusal)) bytes = bytes ≡ []
 WritesNothing (Some Unbuilt) bytes = bytes ≡ []
 WritesNothing (Some (Missing name)) bytes = bytes ≡ []
 WritesNothing (Some (ReadFile name)) bytes = bytes ≡ []
@@ -171,8 +190,10 @@ pub record RanAfter (command : Command) (query : Query) (known : Option Names)
   pub served : fault ≡ Some Words → ⊥
   pub cause : HasCallCause (Some command) before now fault
   pub quiet : WritesNothing fault wrote
-  pub does : (files : Names) → known ≡ Some files → DoesAsked (job_of command files query) fault
-      wrote
+  pub does : (files : Names) → known ≡ Some files → StopsFirst fault wrote
+      ⊎ ((job : Result Job Fault) × IsJobOf command files query job × DoesAsked job fault wrote)
+  pub only : (files : Names) (job : Job) → known ≡ Some files
+      → IsJobOf command files query (Ok job) → Does job fault wrote
 
 -- what a call does before it tells of its fault
 pub record DidCommand (words : List (List ℕ)) (known : Option Names) (before now : FaultCounts)
@@ -203,6 +224,7 @@ abbrev pub IsWhole : Job → Type 0
 IsWhole (RunOver form query items) = AllEnd items
 IsWhole (AnswerAt query items t) = ⊤
 IsWhole (PrintOf query) = ⊤
+IsWhole (DeriveBy query d) = ⊤
 
 -- Words and known files that ask for a job, with no count rising, give the status of success or
 -- that of out of memory.

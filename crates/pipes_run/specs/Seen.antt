@@ -7,7 +7,8 @@ use Rattle.pipes_buffer.specs.declared.IoFault.TheVariants as io
 use Rattle.pipes_query.specs.declared.query.Query.{Query}
 use Rattle.pipes_text.specs.Texts.{IsFileOfQuery}
 use Rattle.pipes_error.specs.declared.Fault.{Fault as Kept}
-use Rattle.pipes_error.specs.Fault.{Fault, QueryText, QueryType, Missing, ReadFile, Write, Memory}
+use Rattle.pipes_error.specs.Fault.{Fault, QueryText, QueryType, DerivationText, Missing, ReadFile}
+use Rattle.pipes_error.specs.Fault.{Write, Memory}
 use Rattle.pipes_error.specs.Fault.{fault_seen}
 use Rattle.pipes_expr.specs.ExprWhys.{first_of}
 use Rattle.pipes_plan.specs.Refusals.{refusals}
@@ -16,7 +17,8 @@ use Rattle.pipes_plan.specs.PlanKinds.{plan_kinds}
 use Rattle.pipes_run.specs.declared.query.CheckedQuery.{CheckedQuery}
 use Rattle.pipes_run.specs.declared.file.FileFault.{FileFault}
 use Rattle.pipes_run.specs.declared.file.FileFault.TheVariants as file
-use Rattle.pipes_run.specs.Asked.{IsQueryFile}
+use Rattle.pipes_derivation.specs.declared.derivation.Derivation.{Derivation}
+use Rattle.pipes_run.specs.Asked.{IsQueryFile, IsDerivationFile}
 
 -- the fault that a step ended with, if there was one
 abbrev pub step_fault : {T : Type 0} → Result T Kept → Option Fault
@@ -91,3 +93,31 @@ abbrev pub word_fault_of : List ℕ → FileFault → Fault
 word_fault_of name file.Missing = Missing name
 word_fault_of name file.Failed = ReadFile name
 word_fault_of name file.Memory = Memory
+
+-- ---- derivations
+
+-- a fault of the reading of a derivation
+abbrev pub IsOfDerivation : Fault → Type 0
+IsOfDerivation (DerivationText name refusal) = ⊤
+IsOfDerivation (Missing name) = ⊤
+IsOfDerivation (ReadFile name) = ⊤
+IsOfDerivation Memory = ⊤
+IsOfDerivation fault = ⊥
+
+-- a fault of a derivation's text
+abbrev pub IsOfDerivationText : Fault → Type 0
+IsOfDerivationText (DerivationText name refusal) = ⊤
+IsOfDerivationText Memory = ⊤
+IsOfDerivationText fault = ⊥
+
+-- a derivation is the one that the file holds, and a fault the one that the file decides, or a free
+-- one
+abbrev pub GivesDerivation : Query → List ℕ → Option (List ℕ) → Result Derivation Kept → Type 0
+GivesDerivation query name file (Ok d) = IsDerivationFile query name file (Ok d)
+GivesDerivation query name file (Err fault) =
+    IsDerivationFile query name file (Err (fault_seen fault)) ⊎ IsFree (fault_seen fault)
+
+-- the derivation is this one, and only a free fault stands in its place
+abbrev pub GivesThis : Derivation → Result Derivation Kept → Type 0
+GivesThis d (Ok given) = given ≡ d
+GivesThis d (Err fault) = IsFree (fault_seen fault)

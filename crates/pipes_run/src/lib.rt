@@ -8,12 +8,14 @@ ghost use Rattle.pipes_run.specs.Seen.{step_fault};
 
 mod answer;
 mod check;
+mod derive;
 mod file;
 mod query;
 mod run;
 
 use answer::answer_query;
 use check::check_query;
+use derive::derive_query;
 use pipes_args::{Command, command_in};
 use pipes_edge::{Files, Gate, Sink};
 use pipes_error::{Fault, say, status};
@@ -23,10 +25,10 @@ use std::alloc::Global;
 /// Does what the words ask for, and answers the status: 0 where all was done, and else that of the
 /// first fault, of which `err` gets one line.
 ///
-/// The words are `run QUERY SCRIPT [--form stream|normal]`, `at QUERY TIME` or `check QUERY`; files
-/// are found by their names, each is read through one buffer, and a source that a run reads is
-/// never held whole. What was written stands, also where a fault comes later. Out of memory gives
-/// status 6.
+/// The words are `run QUERY SCRIPT [--form stream|normal]`, `at QUERY TIME`, `check QUERY` or
+/// `derive QUERY DERIVATION`; files are found by their names, each is read through one buffer, and
+/// a source that a run reads is never held whole. What was written stands, also where a fault comes
+/// later. Out of memory gives status 6.
 pub fn pipes<R: AllocGlobal, F: Files, K: Sink, G: Gate>(
     rt: &R,
     words: &[String],
@@ -119,5 +121,8 @@ fn do_command<'w, F: Files, K: Sink>(
         ) => run_query(alloc, query, script, form, files, out),
         Some(Command::At { query, time }) => answer_query(alloc, query, time, files, out),
         Some(Command::Check { query }) => check_query(alloc, query, files, out),
+        Some(Command::Derive { query, derivation }) => {
+            derive_query(alloc, query, derivation, files, out)
+        }
     }
 }

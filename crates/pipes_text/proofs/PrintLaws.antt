@@ -5,21 +5,13 @@ use Rattle.std.proofs.Common.{append_assoc, append-nil, arith}
 use Rattle.std.specs.Prelude.{codes}
 use Rattle.std.specs.Fmt.{decimal}
 use Rattle.pipes_token.specs.declared.token.Sign.TheVariants.{Open, Close, Comma}
-use Rattle.pipes_token.specs.declared.keyword.Keyword.{Keyword as AKeyword}
 use Rattle.pipes_token.specs.declared.keyword.Keyword.TheVariants as keyword
 use Rattle.pipes_token.specs.declared.token.TokenKind.{TokenKind}
 use Rattle.pipes_token.specs.declared.token.TokenKind.TheVariants.{Sign, Keyword, Name, Number}
 use Rattle.pipes_token.specs.declared.token.TokenKind.TheVariants.{Text, Long, Cut, Byte, End}
-use Rattle.pipes_token.specs.declared.token.Token.{Token}
 use Rattle.pipes_token.specs.Keywords.{keyword_text}
-use Rattle.pipes_token.specs.Gaps.{IsPastGap}
-use Rattle.pipes_token.specs.Gaps as gaps
-use Rattle.pipes_token.specs.Spelling.{Spells}
-use Rattle.pipes_token.specs.Tokens.{Tokens, IsPlaced}
-use Rattle.pipes_token.specs.Tokens as lexed
 use Rattle.pipes_token.specs.Writing.{IsApart, BeginsWith, WritesBefore, Writes, WritesFreely}
 use Rattle.pipes_token.specs.Writing.{IsSpelled}
-use Rattle.pipes_token.proofs.Gaps.{past_separator}
 use Rattle.pipes_token.proofs.Writing.{write_keyword, write_name, write_number, write_open}
 use Rattle.pipes_token.proofs.Writing.{write_close, write_comma, write_space_before}
 use Rattle.pipes_token.proofs.Writing.{write_space_after, write_then, write_apart_then}
@@ -30,13 +22,12 @@ use Rattle.pipes_tuple.specs.declared.value.Kind.TheVariants as kind
 use Rattle.pipes_tuple.specs.Texts.{quoted}
 use Rattle.pipes_window.specs.declared.kind.WindowKind.{WindowKind}
 use Rattle.pipes_plan.specs.declared.plan.Plan.{Plan}
-use Rattle.pipes_reader.specs.Reading.{kinds_of}
-use Rattle.pipes_reader.specs.Texts.{IsText}
 use Rattle.pipes_grammar.specs.Limits.{IsPlanText}
-use Rattle.pipes_reader.proofs.TokenLists.{kinds-append}
 use Rattle.pipes_print.specs.PlanText.{plan_text}
 use Rattle.pipes_print.specs.Printed.{AreSpelled, PlanPrinted}
 use Rattle.pipes_print.proofs.Again.{plan_again}
+use Rattle.pipes_print.proofs.ExprPrinting.{spelled_parts}
+use Rattle.pipes_print.proofs.Lines.{write_line, free, word_then, regroup, text_by}
 use Rattle.pipes_query.specs.declared.query.SourceDecl.{SourceDecl}
 use Rattle.pipes_query.specs.declared.query.Query.{Query}
 use Rattle.pipes_query.specs.Queries.{names_of}
@@ -49,68 +40,6 @@ use Rattle.pipes_text.specs.Texts.{IsTextOfQuery}
 use Rattle.pipes_text.specs.Printing.{column_text, more_columns_text, columns_text}
 use Rattle.pipes_text.specs.Printing.{slack_text, window_text, source_line, sources_text, plan_line}
 use Rattle.pipes_text.specs.Printing.{query_text, HasText}
-
--- ---- the tokens of a text are spelled
-
-spelled_one : (k : TokenKind) (ks : List TokenKind) → k ∷ [] ≡ ks ++ (End ∷ []) → AreSpelled ks
-spelled_one k [] e = tt
-spelled_one k (l ∷ []) e = absurd cc
-spelled_one k (l ∷ m ∷ ks) e = absurd cc
-
-pub spelled_prefix : (n : ℕ) (bs : List ℕ) (ts : List Token) → Tokens n bs ts
-    → (ks : List TokenKind)
-    → kinds_of ts ≡ ks ++ (End ∷ []) → AreSpelled ks
-spelled_prefix n _ _ (lexed.next bs here rest t ts placed begins short others) [] e = tt
-spelled_prefix n _ _ (lexed.next bs here rest t ts placed begins short others) (k ∷ ks) e =
-    let same : t.kind ≡ k = cc in (
-      subst (λ (z : TokenKind). IsSpelled z) same (begins.spelling, begins.spells),
-      spelled_prefix n rest ts others ks (cc),
-    )
-spelled_prefix n _ _ (lexed.too_long bs here rest t placed begins long) ks e =
-    spelled_one t.kind ks e
-spelled_prefix n _ _ (lexed.stopped bs here t placed stops) ks e = spelled_one t.kind ks e
-
-spelled_left : (ks ls : List TokenKind) → AreSpelled (ks ++ ls) → AreSpelled ks
-spelled_left [] ls h = tt
-spelled_left (k ∷ ks) ls h = (h.0, spelled_left ks ls h.1)
-
-spelled_right : (ks ls : List TokenKind) → AreSpelled (ks ++ ls) → AreSpelled ls
-spelled_right [] ls h = h
-spelled_right (k ∷ ks) ls h = spelled_right ks ls h.1
-
--- ---- the end of a line
-
-after_it : (n : ℕ) (bs here : List ℕ) (token : Token) → IsPlaced n bs here token
-    → IsPlaced n (10 ∷ bs) here token
-after_it n bs here token p =
-    record { past_gap = past_separator 10 bs here refl p.past_gap; place = p.place }
-
-line_feed : (n : ℕ) (bs : List ℕ) (ts : List Token) → Tokens n bs ts → Tokens n (10 ∷ bs) ts
-line_feed n bs _ (lexed.next _ here rest t ts p h long others) =
-    lexed.next (10 ∷ bs) here rest t ts (after_it n bs here t p) h long others
-line_feed n bs _ (lexed.too_long _ here rest t p h long) =
-    lexed.too_long (10 ∷ bs) here rest t (after_it n bs here t p) h long
-line_feed n bs _ (lexed.stopped _ here t p h) =
-    lexed.stopped (10 ∷ bs) here t (after_it n bs here t p) h
-
-write_line : (kinds : List TokenKind) (bytes : List ℕ) → Writes kinds bytes
-    → WritesFreely kinds (bytes ++ (10 ∷ []))
-write_line kinds bytes w = record {
-  begins = λ n more tokens fits _ t.
-      let parts : (bytes ++ (10 ∷ [])) ++ more ≡ bytes ++ (10 ∷ more) =
-      append_assoc bytes (10 ∷ []) more in
-      let short : length (bytes ++ (10 ∷ more)) ≤ n =
-      subst (λ (x : List ℕ). length x ≤ n) parts fits in
-      subst (λ (x : List ℕ). BeginsWith n kinds x tokens) (sym parts)
-      (w.begins n (10 ∷ more) tokens short refl (line_feed n more tokens t));
-}
-
-abbrev free : List ℕ → Type 0
-free bs = Unit {0}
-
--- a keyword and a space
-pub word_then : (k : AKeyword) → WritesFreely (Keyword k ∷ []) (keyword_text k ++ (32 ∷ []))
-word_then k = write_space_after (Keyword k ∷ []) (keyword_text k) (write_keyword k)
 
 -- ---- columns
 
@@ -159,7 +88,7 @@ write_columns _ _ _ (grammar.AreColumns.last name sort ks is) s =
     subst (λ (z : List ℕ). Writes ks z) (sym (append-nil (column_text name sort)))
     (write_column name sort ks is s)
 write_columns _ _ _ (grammar.AreColumns.more name sort names sorts ks ls is are) s =
-    let others = write_columns names sorts ls are (spelled_right ks (Sign Comma ∷ ls) s).1 in
+    let others = write_columns names sorts ls are (spelled_parts ks (Sign Comma ∷ ls) s).1.1 in
     let rest : Writes (Sign Comma ∷ ls) (codes ", " ++ columns_text names sorts) =
     write_then IsApart (Sign Comma ∷ []) ls (codes ",") (32 ∷ columns_text names sorts) write_comma
     (write_space_before IsApart ls (columns_text names sorts) others) in
@@ -169,7 +98,7 @@ write_columns _ _ _ (grammar.AreColumns.more name sort names sorts ks ls is are)
     subst (λ (z : List ℕ). Writes (ks ++ (Sign Comma ∷ ls)) z) (sym text)
     (write_apart_then IsApart ks (Sign Comma ∷ ls) (column_text name sort)
     (codes ", " ++ columns_text names sorts) (λ more. refl)
-    (write_column name sort ks is (spelled_left ks (Sign Comma ∷ ls) s)) rest)
+    (write_column name sort ks is (spelled_parts ks (Sign Comma ∷ ls) s).0) rest)
 
 -- ---- windows
 
@@ -220,16 +149,13 @@ write_late _ _ (grammar.IsSlack.within n d) w rest later =
 
 -- ---- sources
 
-regroup : (a b c d e : List ℕ) → (a ++ (b ++ (c ++ d))) ++ e ≡ a ++ (b ++ (c ++ (d ++ e)))
-regroup a b c d e = simp append_assoc
-
 write_source : (s : SourceDecl) (ks : List TokenKind) → IsSource s ks → AreSpelled ks
     → WritesFreely ks (source_line s)
 write_source _ _ (grammar.IsSource.source s cs ls ws are late lasts) h =
     let after_open = h.1.1.1.1.1 in
     let ending = ls ++ (Keyword keyword.Window ∷ ws) in
     let columns : Writes cs (columns_text s.names s.schema) =
-    write_columns s.names s.schema cs are (spelled_left cs (Sign Close ∷ ending) after_open) in
+    write_columns s.names s.schema cs are (spelled_parts cs (Sign Close ∷ ending) after_open).0 in
     let lasting : WritesFreely (Keyword keyword.Window ∷ ws) (window_line s.window) =
     write_then free (Keyword keyword.Window ∷ []) ws (codes " window ")
     (window_text s.window ++ codes "\n")
@@ -285,8 +211,8 @@ write_sources _ _ (grammar.AreSources.last s ks is) h = subst (λ (z : List ℕ)
     (sym (append-nil (source_line s))) (write_source s ks is h)
 write_sources _ _ (grammar.AreSources.more s ss ks ls is are) h =
     write_then free ks ls (source_line s) (sources_text ss)
-    (write_source s ks is (spelled_left ks ls h))
-    (write_sources ss ls are (spelled_right ks ls h))
+    (write_source s ks is (spelled_parts ks ls h).0)
+    (write_sources ss ls are (spelled_parts ks ls h).1)
 
 -- ---- the query
 
@@ -300,9 +226,9 @@ pub printed_by : (q : Query) (ks : List TokenKind) → IsQuery q ks → IsQueryW
     → AreSpelled ks
     → QueryPrinted q
 printed_by _ _ (query q ss ps are it) is h =
-    let spelled = spelled_right ss (Keyword keyword.Plan ∷ ps) h in
+    let spelled = spelled_parts ss (Keyword keyword.Plan ∷ ps) h in
     let p = plan_again (names_of q.sources) q.plan ps
-    (record { spells = it; depth = is.depth; exprs = is.exprs; lists = is.lists }) spelled.1 in
+    (record { spells = it; depth = is.depth; exprs = is.exprs; lists = is.lists }) spelled.1.1 in
     let line : WritesFreely (Keyword keyword.Plan ∷ p.kinds) (plan_line q.sources q.plan) =
     write_then free (Keyword keyword.Plan ∷ []) p.kinds (codes "plan ")
     (plan_text (names_of q.sources) q.plan ++ codes "\n") (word_then keyword.Plan)
@@ -324,35 +250,7 @@ printed_by _ _ (query q ss ps are it) is h =
       };
       writes = write_then free ss (Keyword keyword.Plan ∷ p.kinds) (sources_text q.sources)
           (plan_line q.sources q.plan)
-          (write_sources q.sources ss are (spelled_left ss (Keyword keyword.Plan ∷ ps) h)) line;
-    }
-
-the_end : (n : ℕ) → Tokens n [] (record { at = n; kind = End } ∷ [])
-the_end n = lexed.stopped [] [] (record { at = n; kind = End })
-    (record {
-      past_gap = record { gap = []; parts = refl; is_gap = gaps.none; longest = tt };
-      place = omega arith;
-    }) refl
-
--- what is written is a text of the value that its tokens are a sentence of
-pub text_by : {A : Type 0} (Is : A → List TokenKind → Type 0) (x : A) (ks : List TokenKind)
-    (bytes : List ℕ) → Is x ks → WritesFreely ks bytes → IsText Is x bytes
-text_by Is x ks bytes is writes =
-    let n = length bytes in
-    let end : Token = record { at = n; kind = End } in
-    let short : length (bytes ++ []) ≤ n =
-    subst (λ (z : List ℕ). length z ≤ n) (sym (append-nil bytes)) (omega arith) in
-    let made = writes.begins n [] (end ∷ []) short tt (the_end n) in
-    record {
-      tokens = made.prefix ++ (end ∷ []);
-      are = subst (λ (z : List ℕ). Tokens n z (made.prefix ++ (end ∷ []))) (append-nil bytes)
-          made.whole;
-      spells = (
-        ks,
-        is,
-        kinds-append made.prefix (end ∷ [])
-            ∙ ap (λ (z : List TokenKind). z ++ (End ∷ [])) made.are,
-      );
+          (write_sources q.sources ss are spelled.0) line;
     }
 
 pub text_of_printed : (q : Query) → QueryPrinted q → IsTextOfQuery q (query_text q)

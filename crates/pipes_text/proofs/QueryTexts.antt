@@ -271,7 +271,7 @@ names_known _ _ rest (query q ss ps are it) named =
     (subst (λ (z : List TokenKind). AreNamed z)
     (append_assoc ss (Keyword keyword.Plan ∷ ps) rest) named)
 
-query_named : (bytes : List ℕ) (q : Query) → IsFileOfQuery q bytes
+pub query_named : (bytes : List ℕ) (q : Query) → IsFileOfQuery q bytes
     → HasSourceName (names_of q.sources)
 query_named bytes q is =
     let whole = is.text.spells in

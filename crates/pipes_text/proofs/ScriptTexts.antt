@@ -1,26 +1,22 @@
 -- What is read of a text as a script.
 use Rattle.std.proofs.Common.{◌≡◌, ℕ, ◌<◌, ◌≤◌, List, length, map, Option, Some, Result, Ok, Err}
-use Rattle.std.proofs.Common.{IfOk, IfErr, ◌∷◌, [], refl, subst, arith}
+use Rattle.std.proofs.Common.{IfOk, IfErr, refl, subst}
 use Rattle.pipes_token.specs.declared.refusal.ReadFault.{ReadFault}
 use Rattle.pipes_token.specs.declared.refusal.ReadFault.TheVariants as fault
 use Rattle.pipes_token.specs.declared.token.TokenKind.{TokenKind}
 use Rattle.pipes_reader.specs.Places.{AtToken}
 use Rattle.pipes_reader.specs.Texts.{ReadAs, IsReadBy}
 use Rattle.pipes_reader.proofs.Wholes.{text_found, text_only, text_refused}
-use Rattle.pipes_query.specs.declared.query.SourceDecl.{SourceDecl}
 use Rattle.pipes_query.specs.declared.query.Query.{Query}
 use Rattle.pipes_query.specs.declared.script.Mode.{Mode}
 use Rattle.pipes_query.specs.declared.script.Script.{Script}
 use Rattle.pipes_query.specs.Queries.{names_of}
+use Rattle.pipes_query.proofs.NameLaws.{some_names}
 use Rattle.pipes_grammar.specs.Grammar.{HasSourceName}
 use Rattle.pipes_text.specs.Scripts.{IsScript, IsScriptText}
 use Rattle.pipes_text.specs.ScriptReading.{parse_script}
 use Rattle.pipes_text.specs.ScriptTexts.{IsFileOfScript, ScriptCause}
 use Rattle.pipes_text.proofs.ScriptLaws.{ScriptIn, reads_script}
-
-some_names : (ss : List SourceDecl) → 1 ≤ length ss → 0 < length (names_of ss)
-some_names [] le = absurd (omega (arith, le))
-some_names (s ∷ ss) le = omega arith
 
 module _ (q : Query) (mode : Mode) (names : List (List ℕ)) (same : names ≡ names_of q.sources)
     (some : 1 ≤ length q.sources)

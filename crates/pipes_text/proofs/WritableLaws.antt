@@ -25,6 +25,7 @@ use Rattle.pipes_print.specs.Writable.{Each, AreSourceNames, IsWritablePlan}
 use Rattle.pipes_reader.specs.Names.{IsSourceName}
 use Rattle.pipes_print.specs.Writable.{IsCheckedPlan}
 use Rattle.pipes_print.proofs.ExprPrinting.{spelled_parts}
+use Rattle.pipes_print.proofs.Lines.{spelled_prefix}
 use Rattle.pipes_print.proofs.WritableExprs.{spelled_append, sign_spelled, keyword_spelled}
 use Rattle.pipes_print.proofs.WritableExprs.{number_spelled, text_spelled, spelled_text, Sentence}
 use Rattle.pipes_print.proofs.WritablePlans.{plan_text_of, plan_writable}
@@ -33,6 +34,7 @@ use Rattle.pipes_plan.specs.declared.plan.Plan.{Plan}
 use Rattle.pipes_query.specs.declared.query.SourceDecl.{SourceDecl}
 use Rattle.pipes_query.specs.declared.query.Query.{Query}
 use Rattle.pipes_query.specs.Queries.{names_of}
+use Rattle.pipes_query.proofs.NameLaws.{count_names}
 use Rattle.pipes_text.specs.Grammar as grammar
 use Rattle.pipes_text.specs.Grammar.{word_of, kind_of_token, IsColumn, AreColumns, IsSlack}
 use Rattle.pipes_text.specs.Grammar.{IsWindowText}
@@ -41,7 +43,7 @@ use Rattle.pipes_text.specs.Limits.{ColumnsNamedOnce, ColumnsWithin, IsQueryWith
 use Rattle.pipes_text.specs.Texts.{IsTextOfQuery}
 use Rattle.pipes_text.specs.Printing.{HasText, query_text, with_plan}
 use Rattle.pipes_text.specs.Writable.{IsWritableSource, IsWritableQuery}
-use Rattle.pipes_text.proofs.PrintLaws.{QueryPrinted, printed_by, text_of_printed, spelled_prefix}
+use Rattle.pipes_text.proofs.PrintLaws.{QueryPrinted, printed_by, text_of_printed}
 
 -- ---- words
 
@@ -284,10 +286,6 @@ pub source_names : (ss : List SourceDecl) → Each IsWritableSource ss
     → Each IsSourceName (names_of ss)
 source_names [] each = tt
 source_names (s ∷ ss) each = (each.0.name, source_names ss each.1)
-
-pub count_names : (ss : List SourceDecl) → length (names_of ss) ≡ length ss
-count_names [] = refl
-count_names (s ∷ ss) = ap (λ (n : ℕ). suc n) (count_names ss)
 
 all_sources : (ss : List SourceDecl) → 1 ≤ length ss → Each IsWritableSource ss
     → Sentence AreSources ss

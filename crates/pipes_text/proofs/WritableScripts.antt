@@ -28,6 +28,7 @@ use Rattle.pipes_print.specs.Printed.{AreSpelled}
 use Rattle.pipes_print.specs.Writable.{Each}
 use Rattle.pipes_reader.specs.Names.{IsSourceName}
 use Rattle.pipes_print.proofs.ExprPrinting.{spelled_parts}
+use Rattle.pipes_print.proofs.Lines.{spelled_prefix, write_none, free, word_then, text_by}
 use Rattle.pipes_print.proofs.WritableExprs.{text_spelled, spelled_text}
 use Rattle.pipes_print.proofs.WritablePlans.{NameAt, named_at, none_of_two}
 use Rattle.pipes_query.specs.declared.script.Command.{Command}
@@ -36,14 +37,14 @@ use Rattle.pipes_query.specs.declared.script.Mode.{Mode}
 use Rattle.pipes_query.specs.declared.script.Script.{Script}
 use Rattle.pipes_query.specs.declared.query.Query.{Query}
 use Rattle.pipes_query.specs.Queries.{names_of}
+use Rattle.pipes_query.proofs.NameLaws.{count_names}
 use Rattle.pipes_text.specs.Scripts as grammar
 use Rattle.pipes_text.specs.Scripts.{place_or, file_place, files_or, with_file, IsCommand}
 use Rattle.pipes_text.specs.Scripts.{AreCommands, IsScriptText}
 use Rattle.pipes_text.specs.ScriptTexts.{HasScriptText}
 use Rattle.pipes_text.specs.Writable.{IsFileName, IsWritableCommand, NumberFiles, IsWritableScript}
 use Rattle.pipes_text.specs.Writable.{IsWritableQuery}
-use Rattle.pipes_text.proofs.PrintLaws.{spelled_prefix, text_by, word_then}
-use Rattle.pipes_text.proofs.WritableLaws.{source_names, count_names}
+use Rattle.pipes_text.proofs.WritableLaws.{source_names}
 
 -- ---- names that are found or not
 
@@ -252,9 +253,6 @@ script_writable q mode s (bytes, text) =
 
 -- ---- a writable script has a text
 
-abbrev free : List ℕ → Type 0
-free bs = Unit {0}
-
 -- tokens, and bytes that are them wherever they stand
 pub record Written (Is : List TokenKind → Type 0) : Type 0 where
   pub kinds : List TokenKind
@@ -385,9 +383,7 @@ module _ (names : List (List ℕ)) (words : Each IsSourceName names) (new_names 
           kinds = [];
           is = grammar.AreCommands.none fs;
           bytes = [];
-          writes = record {
-            begins = λ n more tokens fits _ t. record { prefix = []; are = refl; whole = t };
-          };
+          writes = write_none;
         })
     commands_written [] fs (file ∷ more) each files once h =
         absurd (omega (arith, h, length-append fs (file ∷ more)))

@@ -2,7 +2,6 @@
 #![tactic(auto)]
 
 mod mark;
-mod names;
 mod print;
 mod read;
 mod script;

@@ -7,9 +7,8 @@ ghost use Rattle.pipes_text.specs.Printing as spec;
 ghost use Rattle.pipes_print.specs.Writable.{IsCheckedPlan};
 ghost use Rattle.pipes_text.specs.Writable.{IsWritableQuery};
 
-use crate::names::names_of;
 use pipes_plan::Plan;
-use pipes_query::{Query, SourceDecl};
+use pipes_query::{Query, SourceDecl, names_of};
 use pipes_time::Memory;
 use pipes_tuple::{Kind, Text, Value, append, append_number};
 use pipes_window::WindowKind;

@@ -8,11 +8,10 @@ ghost use Rattle.pipes_query.specs.Queries.{names_of};
 ghost use Rattle.pipes_text.specs.Texts.{IsFileOfQuery, QueryCause};
 ghost use Rattle.pipes_text.specs.Reading as spec;
 
-use crate::names::names_of;
 use crate::source::read_source;
 use crate::take::{read_next, read_no_source, read_plan_mark};
 use pipes_grammar::read_plan;
-use pipes_query::{Query, SourceDecl, Sources};
+use pipes_query::{Query, SourceDecl, Sources, names_of};
 use pipes_reader::{Cursor, Entries, ParseFault, Parser, many_within, read_text};
 use pipes_token::ReadFault;
 use std::alloc::Global;

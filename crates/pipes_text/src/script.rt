@@ -12,9 +12,8 @@ ghost use Rattle.pipes_text.specs.ScriptTexts.{IsFileOfScript, ScriptCause, HasS
 ghost use Rattle.pipes_text.specs.Writable.{IsWritableQuery, IsWritableScript};
 
 use crate::mark::Start;
-use crate::names::names_of;
 use pipes_grammar::source_named;
-use pipes_query::{Command, Commands, Mode, Names, Query, Script};
+use pipes_query::{Command, Commands, Mode, Names, Query, Script, names_of};
 use pipes_reader::{
     Cursor, Entries, ParseFault, Parser, many_within, ran_out, read_text, refused, take_number,
     take_text,

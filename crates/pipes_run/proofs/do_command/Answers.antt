@@ -33,3 +33,11 @@ returns-in-Some-Check g c =
     (g.K.Sink.written c.args.out.now) (g.K.Sink.written c.check_query.new.out)
     (step_fault c.check_query.result) (sym c.in-Some-Check.ensures
     ∙ ap (λ (x : Read). Some (command_seen x)) c.in-Some-Check.field-0-is) c.check_query.ensures
+
+pub returns-in-Some-Derive : goal.returns-in-Some-Derive
+returns-in-Some-Derive g c =
+    ran_command (map string_bytes c.args.words.now) (command.Derive c.in-Some-Derive.query.now
+    c.in-Some-Derive.derivation.now) (g.F.Files.known c.args.files.now) _ _
+    (g.K.Sink.written c.args.out.now) (g.K.Sink.written c.derive_query.new.out)
+    (step_fault c.derive_query.result) (sym c.in-Some-Derive.ensures
+    ∙ ap (λ (x : Read). Some (command_seen x)) c.in-Some-Derive.field-0-is) c.derive_query.ensures

@@ -3,7 +3,6 @@ use Rattle.pipes_tuple.specs.declared.value.Kind.{Kind}
 use Rattle.pipes_feed.specs.Items.{arrivals_of, in_order}
 use Rattle.pipes_feed.specs.Ahead.{ArrivalFollows, arrivals_ahead}
 use Rattle.pipes_feed.specs.State.{fresh_reader}
-use Rattle.pipes_answer.specs.Gathering.{ReleasesRows}
 use Rattle.pipes_answer.specs.Gives.{source_refusal}
 use Rattle.pipes_answer.proofs.Taken.{taken-more, taken-end, taken-rows, taken-fit, all-gathered}
 use Rattle.pipes_answer.proofs.source.gather.Goals as goal

@@ -1,5 +1,5 @@
 use Rattle.std.proofs.Common.{◌∙◌}
-use Rattle.pipes_box.specs.declared.operator.PlanOperator.TheVariants as operator
+use Rattle.pipes_node.specs.declared.operator.PlanOperator.TheVariants as operator
 use Rattle.pipes_box.proofs.PerKind.{same-join}
 use Rattle.pipes_box.proofs.build.join_over.Goals as goal
 

@@ -1,9 +1,9 @@
 use Rattle.std.proofs.Common.{◌≡◌, ◌<◌, ℕ, refl, sym, ◌∙◌, ap, subst, List, length, get_or}
-use Rattle.pipes_box.specs.declared.node.Node.{Node}
-use Rattle.pipes_box.specs.declared.port.Port.{Port}
+use Rattle.pipes_node.specs.declared.node.Node.{Node}
+use Rattle.pipes_node.specs.declared.port.Port.{Port}
 use Rattle.pipes_box.specs.Networks.{PortSettled, SettledLink}
-use Rattle.pipes_box.specs.Nodes.{PortLooks}
-use Rattle.pipes_box.proofs.NodeSteps.{get-any}
+use Rattle.pipes_node.specs.Nodes.{PortLooks}
+use Rattle.pipes_node.proofs.NodeSteps.{get-any}
 use Rattle.pipes_box.proofs.Pieces.{set-parts, get-front, get-back}
 use Rattle.pipes_box.proofs.Looks.{port-settled, port-read, with_outlet, with_port}
 use Rattle.pipes_box.proofs.settling.settle_port.Goals as goal

@@ -1,6 +1,6 @@
 use Rattle.std.proofs.Common.{◌≡◌, ◌≤◌, ◌<◌, ◌∙◌, ap, arith, List, length, get_or}
-use Rattle.pipes_box.specs.declared.node.Node.{Node}
-use Rattle.pipes_box.proofs.NodeSteps.{get-any}
+use Rattle.pipes_node.specs.declared.node.Node.{Node}
+use Rattle.pipes_node.proofs.NodeSteps.{get-any}
 use Rattle.pipes_box.proofs.Looks.{linked-settled, settles-next, settles-node}
 use Rattle.pipes_box.proofs.settling.settle_ports.Goals as goal
 

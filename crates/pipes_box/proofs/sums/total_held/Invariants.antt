@@ -1,6 +1,6 @@
 use Rattle.std.proofs.Common.{◌≡◌, ◌-◌, ◌^◌, ℕ, min, take}
 use Rattle.std.specs.List.{sum_by}
-use Rattle.pipes_box.specs.Nodes.{held_in}
+use Rattle.pipes_node.specs.Nodes.{held_in}
 use Rattle.pipes_box.proofs.sums.total_held.Given as goal
 
 abbrev pub invariant-loop-node : goal.invariant-loop-node

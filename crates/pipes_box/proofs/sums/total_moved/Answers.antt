@@ -1,6 +1,6 @@
 use Rattle.std.proofs.Common.{arith}
-use Rattle.pipes_box.specs.declared.node.Node.{Node}
-use Rattle.pipes_box.proofs.Totals.{sum-more}
+use Rattle.pipes_node.specs.declared.node.Node.{Node}
+use Rattle.pipes_node.proofs.Totals.{sum-more}
 use Rattle.pipes_box.proofs.sums.total_moved.Goals as goal
 
 pub loop-node-preserved : goal.loop-node-preserved

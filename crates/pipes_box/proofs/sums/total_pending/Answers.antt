@@ -1,7 +1,7 @@
 use Rattle.std.proofs.Common.{arith, cond, eqb}
-use Rattle.pipes_box.specs.declared.node.Node.{Node}
-use Rattle.pipes_box.specs.Backlog.{pends_with}
-use Rattle.pipes_box.proofs.Totals.{sum-more}
+use Rattle.pipes_node.specs.declared.node.Node.{Node}
+use Rattle.pipes_node.specs.Nodes.{pends_with}
+use Rattle.pipes_node.proofs.Totals.{sum-more}
 use Rattle.pipes_box.proofs.sums.total_pending.Goals as goal
 
 pub loop-node-preserved : goal.loop-node-preserved

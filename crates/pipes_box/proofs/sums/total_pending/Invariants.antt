@@ -1,5 +1,6 @@
 use Rattle.std.proofs.Common.{◌≡◌, ◌≤◌, ◌*◌, take}
-use Rattle.pipes_box.specs.Backlog.{sum_at, pends_with}
+use Rattle.pipes_box.specs.Backlog.{sum_at}
+use Rattle.pipes_node.specs.Nodes.{pends_with}
 use Rattle.pipes_box.proofs.sums.total_pending.Given as goal
 
 abbrev pub invariant-loop-node : goal.invariant-loop-node

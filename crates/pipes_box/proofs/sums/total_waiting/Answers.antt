@@ -1,7 +1,7 @@
 use Rattle.std.proofs.Common.{arith, ◌≤◌, cond, eqb, length, sym, subst}
-use Rattle.pipes_box.specs.declared.node.Node.{Node}
-use Rattle.pipes_box.specs.Nodes.{total_ready}
-use Rattle.pipes_box.proofs.Totals.{sum-more}
+use Rattle.pipes_node.specs.declared.node.Node.{Node}
+use Rattle.pipes_node.specs.Nodes.{total_ready}
+use Rattle.pipes_node.proofs.Totals.{sum-more}
 use Rattle.pipes_box.proofs.sums.total_waiting.Goals as goal
 
 pub ready_at-requires : goal.ready_at-requires

@@ -1,5 +1,5 @@
 use Rattle.std.proofs.Common.{◌≡◌, ◌≤◌, ◌*◌, take}
-use Rattle.pipes_box.specs.Nodes.{total_ready}
+use Rattle.pipes_node.specs.Nodes.{total_ready}
 use Rattle.pipes_box.specs.Backlog.{sum_at}
 use Rattle.pipes_box.proofs.sums.total_waiting.Given as goal
 

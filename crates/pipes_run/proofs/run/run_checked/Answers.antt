@@ -1,6 +1,8 @@
 use Rattle.std.proofs.Common.{rules, sym, ◌∙◌}
 use Rattle.pipes_error.specs.Fault.{fault_seen}
-use Rattle.pipes_run.proofs.Scripts.{script_refused}
+use Rattle.pipes_run.specs.Outcome.{FaultCounts}
+use Rattle.pipes_run.specs.Seen.{step_fault}
+use Rattle.pipes_run.proofs.Scripts.{script_refused, not_served, script_run}
 use Rattle.pipes_run.proofs.run.run_checked.Goals as goal
 
 pub returns-in-Err : goal.returns-in-Err

@@ -1,7 +1,7 @@
 use Rattle.std.proofs.Common.{◌≡◌, ◌-◌, ◌^◌, ◌<◌, ◌≤◌, ◌∙◌, ℕ, min, List, length, get_or, ap, sym}
 use Rattle.std.proofs.Common.{subst}
 use Rattle.std.specs.List.{sum_by}
-use Rattle.pipes_box.specs.declared.node.Node.{Node}
+use Rattle.pipes_node.specs.declared.node.Node.{Node}
 use Rattle.pipes_box.specs.declared.plan_box.PlanBox.{PlanBox}
 use Rattle.pipes_box.specs.Backlog.{backlog_of, lowered_first, FallsAt}
 use Rattle.pipes_box.proofs.Moving.{round-moved, round-still, round-empty}

@@ -1,5 +1,5 @@
 use Rattle.std.proofs.Common.{◌≡◌, ◌≤◌, ◌<◌, ◌∙◌, ℕ, List, length, get_or, ap, sym, subst}
-use Rattle.pipes_box.specs.declared.node.Node.{Node}
+use Rattle.pipes_node.specs.declared.node.Node.{Node}
 use Rattle.pipes_box.specs.Backlog.{known_backlog}
 use Rattle.pipes_box.proofs.WorkedOff.{known-is, looked-backlog}
 use Rattle.pipes_box.proofs.plan_box.PlanBox.backlog_at.Goals as goal

@@ -1,6 +1,6 @@
 use Rattle.std.proofs.Common.{◌≡◌, List, [], subst, refl}
 use Rattle.pipes_box.specs.declared.leaf.Leaf.{Leaf}
-use Rattle.pipes_box.specs.declared.node.Node.{Node}
+use Rattle.pipes_node.specs.declared.node.Node.{Node}
 use Rattle.pipes_box.specs.Parts.{PartBuilt}
 use Rattle.pipes_box.proofs.BoxLaw.{built-sound, built-stands}
 use Rattle.pipes_box.proofs.Plans.{checks-within, can-whole}

@@ -5,9 +5,9 @@ use Rattle.pipes_stream.specs.declared.message.Message.{Message}
 use Rattle.pipes_link.specs.declared.outlet.Outlet.{Outlet}
 use Rattle.pipes_link.specs.Ends.{sent, SameOutlet}
 use Rattle.pipes_box.specs.declared.leaf.Leaf.{Leaf as PlanLeaf}
-use Rattle.pipes_box.specs.declared.node.Node.{Node}
+use Rattle.pipes_node.specs.declared.node.Node.{Node}
 use Rattle.pipes_box.specs.declared.plan_box.PlanBox.{PlanBox}
-use Rattle.pipes_box.proofs.NodeSteps.{get-any}
+use Rattle.pipes_node.proofs.NodeSteps.{get-any}
 use Rattle.pipes_box.proofs.Looks.{with_outlet}
 use Rattle.pipes_box.proofs.Giving.{LeafPut, put-sound, put-stands, put-stays}
 use Rattle.pipes_box.proofs.Giving.{put-full}

@@ -4,9 +4,9 @@ use Rattle.pipes_stream.specs.declared.message.Message.{Message}
 use Rattle.pipes_link.specs.declared.outlet.Outlet.{Outlet}
 use Rattle.pipes_link.specs.Ends.{sent, spare, SameOutlet}
 use Rattle.std.specs.Vec.{with_item}
-use Rattle.pipes_box.specs.declared.node.Node.{Node}
+use Rattle.pipes_node.specs.declared.node.Node.{Node}
 use Rattle.pipes_box.specs.declared.plan_box.PlanBox.{PlanBox}
-use Rattle.pipes_box.proofs.NodeSteps.{get-any}
+use Rattle.pipes_node.proofs.NodeSteps.{get-any}
 use Rattle.pipes_box.proofs.Looks.{with_outlet}
 use Rattle.pipes_box.proofs.Rounds.{top-sound, top-stands, top-looked}
 use Rattle.pipes_box.proofs.plan_box.PlanBox.settle_top.Goals as goal

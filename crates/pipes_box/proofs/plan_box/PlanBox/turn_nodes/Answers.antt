@@ -1,9 +1,9 @@
 use Rattle.std.proofs.Common.{◌≡◌, ◌<◌, ◌∙◌, ℕ, false, List, length, get_or, ap, sym, subst, refl}
 use Rattle.std.specs.Vec.{with_items}
 use Rattle.std.proofs.lemmas.List.{with_items_is}
-use Rattle.pipes_box.specs.declared.node.Node.{Node}
+use Rattle.pipes_node.specs.declared.node.Node.{Node}
 use Rattle.pipes_box.specs.declared.plan_box.PlanBox.{PlanBox}
-use Rattle.pipes_box.specs.Nodes.{NodeTurned}
+use Rattle.pipes_node.specs.Nodes.{NodeTurned}
 use Rattle.pipes_box.proofs.Rounds.{renews-sound, turned-renews, turned-stands}
 use Rattle.pipes_box.proofs.plan_box.PlanBox.turn_nodes.Goals as goal
 

@@ -1,6 +1,0 @@
-use denote.Param.Send.{sendable}
-use Rattle.pipes_box.proofs.Sent.{send_node}
-use Rattle.pipes_box.proofs.turning.turn_all.Goals as goal
-
-pub for_each_mut-requires-send-T : goal.for_each_mut-requires-send-T
-for_each_mut-requires-send-T g c κs within = search (sendable, send_node)

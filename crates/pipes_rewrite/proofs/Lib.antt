@@ -1,0 +1,3 @@
+pub mod ChangedValues
+pub mod ChangedLists
+pub mod ChangedLoop

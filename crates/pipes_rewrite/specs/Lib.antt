@@ -1,0 +1,10 @@
+pub mod Changes
+pub mod Nodes
+pub mod Widths
+pub mod Equalities
+pub mod ColumnChange
+pub mod FilterForms
+pub mod SameMeaning
+pub mod Making
+pub mod JoinForms
+pub mod BagForms

@@ -1,0 +1,16 @@
+pub mod Parts
+pub mod Same
+pub mod RowCounts
+pub mod FilterSound
+pub mod BagSound
+pub mod JoinedRows
+pub mod RowWidth
+pub mod JoinSound
+pub mod OnceEach
+pub mod MadeSound
+pub mod GroupSound
+pub mod SideSound
+pub mod AssocSound
+pub mod ThinSound
+pub mod FormsSound
+pub mod Congruent

@@ -1,0 +1,2 @@
+//! Lemmas: each form of a rewriting rule means the same as what the rule makes of it.
+#![tactic(auto)]

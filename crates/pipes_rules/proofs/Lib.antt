@@ -1,0 +1,5 @@
+pub mod StepsSound
+pub mod Walking
+pub mod Applying
+pub mod TableLaws
+pub mod StepByStep
