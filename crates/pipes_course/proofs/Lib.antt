@@ -1,0 +1,3 @@
+pub mod Rest
+pub mod Loop
+pub mod Cutting

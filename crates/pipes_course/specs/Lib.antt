@@ -1,0 +1,9 @@
+pub mod Turns
+pub mod Steps
+pub mod Known
+pub mod Asking
+pub mod Endings
+pub mod Taking
+pub mod Job
+pub mod Writing
+pub mod Course

@@ -1,0 +1,5 @@
+pub mod Reading
+pub mod Tuples
+pub mod Beats
+pub mod Giving
+pub mod Turning

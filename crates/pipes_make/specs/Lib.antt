@@ -1,0 +1,5 @@
+pub mod Draws
+pub mod Made
+pub mod Sources
+pub mod Scripts
+pub mod Texts

@@ -1,0 +1,4 @@
+pub mod Growing
+pub mod Cuts
+pub mod Putting
+pub mod Standing

@@ -1,0 +1,4 @@
+pub mod Pieces
+pub mod Feds
+pub mod Laws
+pub mod Placed

@@ -1,0 +1,6 @@
+pub mod Setting
+pub mod Runs
+pub mod Wrong
+pub mod Takings
+pub mod Touching
+pub mod WholeRun

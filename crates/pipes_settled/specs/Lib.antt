@@ -1,0 +1,3 @@
+pub mod Certainty
+pub mod Standing
+pub mod Moves

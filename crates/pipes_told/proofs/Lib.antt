@@ -1,0 +1,5 @@
+pub mod Floors
+pub mod Growing
+pub mod Calls
+pub mod Spans
+pub mod Lags
