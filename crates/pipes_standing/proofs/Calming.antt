@@ -29,7 +29,7 @@ use Rattle.pipes_box.specs.Boxes.{IsStill}
 use Rattle.pipes_works.specs.Sources.{AnswersSources, KeepsUpWithSources, Reads, AllReached}
 use Rattle.pipes_works.specs.Standing.{WorksStand, MayCome, Puts}
 use Rattle.pipes_written.specs.declared.output.Output.{Output}
-use Rattle.pipes_written.specs.Course.{Answers, IsWritten, Continues, results_of, level_after}
+use Rattle.pipes_written.specs.Written.{Answers, IsWritten, Continues, results_of, level_after}
 use Rattle.pipes_written.specs.Made.{Made, Adds}
 use Rattle.pipes_written.proofs.Splits.{results-append, results-map}
 use Rattle.pipes_written.proofs.Writes.{level-is}

@@ -19,7 +19,7 @@ use Rattle.pipes_box.specs.Prompt.{lag_of, floors}
 use Rattle.pipes_box.specs.Boxes.{IsStill}
 use Rattle.pipes_works.specs.Sources.{Reads, AllReached, AllWithin, AllSourcesEnded}
 use Rattle.pipes_works.specs.Standing.{WorksStand, IsWhole, MayCome, source_count}
-use Rattle.pipes_written.specs.Course.{Answers, IsWritten, results_of}
+use Rattle.pipes_written.specs.Written.{Answers, IsWritten, results_of}
 use Rattle.pipes_written.specs.Made.{last_entry, drained}
 use Rattle.pipes_standing.specs.declared.standing.Standing.{Standing}
 

@@ -25,8 +25,8 @@ use Rattle.pipes_output.specs.declared.entry.Entry.{Entry}
 use Rattle.pipes_output.specs.declared.entry.Entry.TheVariants as entry
 use Rattle.pipes_semantics.specs.Written.{results, starts, written_snapshot}
 use Rattle.pipes_semantics.specs.Right.{NeverFall}
-use Rattle.pipes_written.specs.Course.{Answers, IsTyped, IsWritten, results_of, level_after}
-use Rattle.pipes_written.specs.Course.{Continues}
+use Rattle.pipes_written.specs.Written.{Answers, IsTyped, IsWritten, results_of, level_after}
+use Rattle.pipes_written.specs.Written.{Continues}
 use Rattle.pipes_written.specs.declared.output.Output.{Output}
 use Rattle.pipes_written.specs.Made.{last_entry, drained, Made}
 use Rattle.pipes_written.proofs.Splits.{results-append, starts-append, results-map, starts-map}

@@ -5,7 +5,7 @@ use Rattle.pipes_stream.specs.declared.message.Message.{Message}
 use Rattle.pipes_output.specs.declared.entry.Entry.{Entry}
 use Rattle.pipes_output.specs.declared.entry.Entry.TheVariants as entry
 use Rattle.pipes_written.specs.declared.output.Output.{Output}
-use Rattle.pipes_written.specs.Course.{results_of, level_after}
+use Rattle.pipes_written.specs.Written.{results_of, level_after}
 
 -- a result was made for each element, in order, and the output has come as far as the messages
 pub record Made (old new : Output) (sent : List Message) : Type 0 where

@@ -11,7 +11,7 @@ ghost use Rattle.pipes_query.specs.declared.query.Query.{Query};
 ghost use Rattle.pipes_output.specs.declared.entry.Entry.{Entry as Line};
 ghost use Rattle.pipes_semantics.specs.Answer.{answer, schema_of};
 ghost use Rattle.pipes_semantics.specs.Right.{Final, Right};
-ghost use Rattle.pipes_written.specs.Course.{IsWritten, Continues, Answers, results_of};
+ghost use Rattle.pipes_written.specs.Written.{IsWritten, Continues, Answers, results_of};
 ghost use Rattle.pipes_written.specs.Made.{last_entry};
 
 use crate::entries::Entries;

@@ -1,5 +1,5 @@
 use Rattle.std.proofs.Common.{ℕ, ◌++◌, sym, subst}
-use Rattle.pipes_written.specs.Course.{IsWritten, results_of}
+use Rattle.pipes_written.specs.Written.{IsWritten, results_of}
 use Rattle.pipes_written.proofs.Writes.{written-results}
 use Rattle.pipes_written.proofs.output.Output.write.Goals as goal
 
