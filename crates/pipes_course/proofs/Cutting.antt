@@ -1,7 +1,7 @@
 -- A text has one list of entries, and of a run that was cut what reads as whole lines may have been
 -- written: no line is free.
 use Rattle.std.proofs.Common.{◌≡◌, ℕ, zero, suc, ◌<◌, false, List, [], ◌∷◌, ◌++◌, length, take}
-use Rattle.std.proofs.Common.{Result}
+use Rattle.std.proofs.Common.{Option}
 use Rattle.std.proofs.Common.{inl, inr, refl, sym, ◌∙◌, ap, subst, arith, append_assoc}
 use Rattle.std.specs.List.{All}
 use Rattle.std.specs.Prelude.{◌==◌, codes, ⊤}
@@ -15,10 +15,10 @@ use Rattle.pipes_output.proofs.Injective.{text-injective}
 use Rattle.pipes_course.specs.Job.{About}
 use Rattle.pipes_course.specs.Writing.{IsCutText, IsNextLine, SoFar, WritesAll, WritesPart}
 
-module _ {D : Type 0} (derives : Plan → D → Result Plan ℕ) where
+module _ {D : Type 0} (target : D → Plan) (ComesTo : Plan → D → Option ℕ → Type 0) where
   -- two lists of entries that a run may have written whole, with one text, are the same
   pub one-list-whole : (run : About D) (last other : Entry) (bytes : List ℕ)
-      (a : WritesAll derives run last bytes) (b : WritesAll derives run other bytes)
+      (a : WritesAll target ComesTo run last bytes) (b : WritesAll target ComesTo run other bytes)
       → a.entries ≡ b.entries
   one-list-whole run last other bytes a b =
       one-list a.entries b.entries a.so_far.typed b.so_far.typed (sym a.bytes_are ∙ b.bytes_are)
@@ -113,9 +113,9 @@ last-typed : (xs : List Entry) (x : Entry) → All IsEntry (xs ++ x ∷ []) → 
 last-typed [] x all = All-head IsEntry x [] all
 last-typed (y ∷ ys) x all = last-typed ys x (All-tail IsEntry y (ys ++ x ∷ []) all)
 
-module _ {D : Type 0} (derives : Plan → D → Result Plan ℕ) where
+module _ {D : Type 0} (target : D → Plan) (ComesTo : Plan → D → Option ℕ → Type 0) where
   begun-clear : (run : About D) (es : List Entry) (part : List ℕ)
-      → IsCutText (IsNextLine derives run es) part → NoFeeds part
+      → IsCutText (IsNextLine target ComesTo run es) part → NoFeeds part
   begun-clear run es part (inl nothing) = subst NoFeeds (sym nothing) tt
   begun-clear run es part (inr b) =
       let next = b.2.0 in
@@ -127,8 +127,8 @@ module _ {D : Type 0} (derives : Plan → D → Result Plan ℕ) where
 
   -- what reads as whole lines are entries that may have been written
   pub cut-at-line : (run : About D) (es : List Entry) → All IsEntry es
-      → WritesPart derives run (lines es) → SoFar derives run es
+      → WritesPart target ComesTo run (lines es) → SoFar target ComesTo run es
   cut-at-line run es typed w =
-      subst (λ (l : List Entry). SoFar derives run l)
+      subst (λ (l : List Entry). SoFar target ComesTo run l)
       (whole-lines w.entries es w.part w.so_far.typed typed
       (begun-clear run w.entries w.part w.begun) (sym w.bytes_are)) w.so_far

@@ -21,14 +21,15 @@ use Rattle.pipes_course.specs.Steps.{Made, inline_steps}
 use Rattle.pipes_course.specs.Asking.{asks_after, asks_awaiting}
 use Rattle.pipes_course.specs.Endings.{Stopped as Halted, ending_of}
 use Rattle.pipes_course.specs.Taking.{taken_by, items_taken}
-use Rattle.pipes_rows_course.proofs.Setting.{Apart, TestMove, Merge, Back, Bad, test_derives}
+use Rattle.pipes_rows_course.proofs.Setting.{Apart, TestMove, Merge, Back, Bad, test_target}
+use Rattle.pipes_rows_course.proofs.Setting.{TestComesTo}
 use Rattle.pipes_rows_course.proofs.Setting.{test_steep, source_with, source_a, file_of, file_a}
 use Rattle.pipes_rows_course.proofs.Setting.{row, found}
 
 -- the entries may be those of a run of a source over a file, where this is asked for
 abbrev pub MayWrite : SourceDecl → Items → List (Ask TestMove) → List Entry → Type 0
 MayWrite source file asks entries =
-    Follow test_derives test_steep (spans source.window (in_order file.list))
+    Follow test_target TestComesTo test_steep (spans source.window (in_order file.list))
     (nothing_told Apart asks) entries
 
 -- what the commands ask for in an inline run

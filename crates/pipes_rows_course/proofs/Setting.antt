@@ -1,5 +1,5 @@
 -- The sources, plans and derivations of the worked rows.
-use Rattle.std.specs.Prelude.{ℕ, List, [], ◌∷◌, pos, Result, Ok, Err, codes}
+use Rattle.std.specs.Prelude.{◌≡◌, ℕ, List, [], ◌∷◌, pos, Option, Some, None, codes}
 use Rattle.pipes_tuple.specs.declared.value.Value.TheVariants.{Int}
 use Rattle.pipes_tuple.specs.declared.value.Kind.TheVariants as kind
 use Rattle.pipes_stream.specs.declared.Elem.{Elem}
@@ -24,13 +24,23 @@ pub data TestMove : Type 0 where
   Back : TestMove
   Bad : TestMove
 
-abbrev pub test_derives : TestPlan → TestMove → Result TestPlan ℕ
-test_derives Apart Merge = Ok Together
-test_derives Apart Back = Err 1
-test_derives Apart Bad = Err 2
-test_derives Together Merge = Err 1
-test_derives Together Back = Ok Apart
-test_derives Together Bad = Err 1
+-- the plan that each is to lead to
+abbrev pub test_target : TestMove → TestPlan
+test_target Merge = Together
+test_target Back = Apart
+test_target Bad = Together
+
+-- the number of the first step that fails, if one does
+abbrev pub failing_step : TestPlan → TestMove → Option ℕ
+failing_step Apart Merge = None
+failing_step Apart Back = Some 1
+failing_step Apart Bad = Some 2
+failing_step Together Merge = Some 1
+failing_step Together Back = None
+failing_step Together Bad = Some 1
+
+abbrev pub TestComesTo : TestPlan → TestMove → Option ℕ → Type 0
+TestComesTo plan move outcome = failing_step plan move ≡ outcome
 
 -- neither has a group or a difference
 abbrev pub test_steep : TestPlan → ℕ

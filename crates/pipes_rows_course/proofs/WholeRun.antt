@@ -1,6 +1,6 @@
 -- A whole course: the plan is the source itself, over the first file, with a drain after one row.
 use Rattle.std.proofs.Common.{◌≡◌, ℕ, ◌+◌, ◌≤◌, ◌<◌, max, List, [], ◌∷◌, ◌++◌, Bool, true, false}
-use Rattle.std.proofs.Common.{cond, map, nat_le, nat_lt, ◌&&◌, Option, Result, Err, pos, refl, sym}
+use Rattle.std.proofs.Common.{cond, map, nat_le, nat_lt, ◌&&◌, Option, pos, refl, sym}
 use Rattle.std.proofs.Common.{ap}
 use Rattle.std.proofs.Common.{◌∙◌, rules, arith, unwrap_or}
 use Rattle.std.specs.List.{All}
@@ -39,8 +39,12 @@ use Rattle.pipes_course.specs.Writing.{FollowFrom}
 use Rattle.pipes_course.specs.Course.{Course}
 use Rattle.pipes_rows_course.proofs.Setting.{TestMove, source_a, file_a, elem, found}
 
-abbrev no_moves : Plan → TestMove → Result Plan ℕ
-no_moves plan move = Err 1
+-- nothing is asked for
+abbrev to_itself : TestMove → Plan
+to_itself move = Source 0
+
+abbrev NoMoves : Plan → TestMove → Option ℕ → Type 0
+NoMoves plan move outcome = ⊥
 
 abbrev query : Query
 query = record { sources = source_a ∷ []; plan = Source 0 }
@@ -66,7 +70,7 @@ steep-Source i = search (rules, the_lemmas)
 floor-0 : (n : ℕ) → n ≡ 0 → floors (max n 0 + 1) 0 (elem 0 10 5 ∷ elem 5 15 6 ∷ []) ≤ 0
 floor-0 n none = rw none (omega arith)
 
-follow : FollowFrom no_moves run entries
+follow : FollowFrom to_itself NoMoves run entries
 unfolding Rattle.pipes_window.specs.Windows.each_row
 follow = search (refl, arith, floor-0 (steep (Source 0)) (steep-Source 0)) parts 60
 
@@ -166,7 +170,7 @@ coalesced number split has x y in_x in_y same_tuple end start =
     (All-from_recursion NotAccepted entries (tt, (tt, (tt, (tt, (tt, tt)))))) has
 
 -- so the definitions can be met: this text is the whole course of the run
-pub course : Course no_moves job (file_a ∷ []) Whole (3 ∷ []) (lines entries)
+pub course : Course to_itself NoMoves job (file_a ∷ []) Whole (3 ∷ []) (lines entries)
 unfolding Rattle.pipes_window.specs.Windows.each_row
 course = record {
   takes = record {

@@ -30,13 +30,13 @@ drain-none p = let all = p.1.1.1.1.0.replies in cc
 busy-alone : ¬ (RunA (Merge ∷ []) (Feed 0 1 ∷ Migrate 0 ∷ []) (found 0 10 5 ∷ Refused 1 (Busy 11)
     ∷ found 5 15 6 ∷ Ended ∷ []))
 unfolding Rattle.pipes_window.specs.Windows.each_row
-busy-alone p = let why = p.1.0.replies.refused in cc
+busy-alone p = let why = p.1.0.replies.refused.1 in cc
 
 -- a second migration is accepted while one is in progress
 accepted-twice : ¬ (RunA (Merge ∷ Back ∷ []) script-twice (found 0 10 5 ∷ Accepted 1 11
     ∷ Accepted 2 11 ∷ Idle 2 ∷ Over 2 ∷ Ended ∷ []))
 unfolding Rattle.pipes_window.specs.Windows.each_row
-accepted-twice p = let why = p.1.1.0.replies.unrefused in cc
+accepted-twice p = let why = p.1.1.0.replies.alone in cc
 
 -- `z 1` is missing at the end
 over-none : ¬ (RunA (Merge ∷ []) script-move (found 0 10 5 ∷ Accepted 1 11 ∷ found 5 15 6 ∷ Beat 5

@@ -1,5 +1,5 @@
 -- How what single calls tell makes up what a run tells.
-use Rattle.std.proofs.Common.{◌≡◌, ℕ, ◌≤◌, List, [], ◌∷◌, ◌++◌, Result, inl, inr, refl, sym}
+use Rattle.std.proofs.Common.{◌≡◌, ℕ, ◌≤◌, List, [], ◌∷◌, ◌++◌, Option, inl, inr, refl, sym}
 use Rattle.std.proofs.Common.{subst, arith}
 use Rattle.pipes_stream.specs.declared.Elem.{Elem}
 use Rattle.pipes_output.specs.declared.entry.Entry.{Entry}
@@ -9,42 +9,43 @@ use Rattle.pipes_told.specs.Asks.{Ask, Migrates, Drains, Taken, Awaited}
 use Rattle.pipes_told.specs.Told.{Move, Told, asking, after_entry, after_entries}
 use Rattle.pipes_told.specs.Pacing.{IsPaced, IsTimely, EachMove, MayFollow, Follow, GoesOn}
 
-module _ {P D : Type 0} (derives : P → D → Result P ℕ) (steep : P → ℕ) (spans : List Elem) where
+module _ {P D : Type 0} (target : D → P) (ComesTo : P → D → Option ℕ → Type 0)
+    (steep : P → ℕ) (spans : List Elem) where
   -- what is told after two lists of entries
   pub after-append : (told : Told P D) (es more : List Entry)
-      → after_entries derives told (es ++ more)
-      ≡ after_entries derives (after_entries derives told es) more
+      → after_entries target told (es ++ more)
+      ≡ after_entries target (after_entries target told es) more
   after-append told [] more = refl
-  after-append told (e ∷ es) more = after-append (after_entry derives told e) es more
+  after-append told (e ∷ es) more = after-append (after_entry target told e) es more
 
   -- entries that may follow, and others that may follow those
-  pub Follow-append : (told : Told P D) (es more : List Entry) → Follow derives steep spans told es
-      → Follow derives steep spans (after_entries derives told es) more
-      → Follow derives steep spans told (es ++ more)
+  pub Follow-append : (told : Told P D) (es more : List Entry) → Follow target ComesTo steep spans told es
+      → Follow target ComesTo steep spans (after_entries target told es) more
+      → Follow target ComesTo steep spans told (es ++ more)
   Follow-append told [] more first second = second
   Follow-append told (e ∷ es) more first second =
-      (first.0, Follow-append (after_entry derives told e) es more first.1 second)
+      (first.0, Follow-append (after_entry target told e) es more first.1 second)
 
   -- of entries that may follow the first ones may, and the others after them
   pub Follow-front : (told : Told P D) (es more : List Entry)
-      → Follow derives steep spans told (es ++ more) → Follow derives steep spans told es
+      → Follow target ComesTo steep spans told (es ++ more) → Follow target ComesTo steep spans told es
   Follow-front told [] more follow = tt
   Follow-front told (e ∷ es) more follow =
-      (follow.0, Follow-front (after_entry derives told e) es more follow.1)
+      (follow.0, Follow-front (after_entry target told e) es more follow.1)
 
   pub Follow-rest : (told : Told P D) (es more : List Entry)
-      → Follow derives steep spans told (es ++ more)
-      → Follow derives steep spans (after_entries derives told es) more
+      → Follow target ComesTo steep spans told (es ++ more)
+      → Follow target ComesTo steep spans (after_entries target told es) more
   Follow-rest told [] more follow = follow
   Follow-rest told (e ∷ es) more follow =
-      Follow-rest (after_entry derives told e) es more follow.1
+      Follow-rest (after_entry target told e) es more follow.1
 
   -- ---- more that is asked for later
 
   -- an entry that may follow may follow still, but for the last one of a run
   may_follow-more : (told : Told P D) (asks more : List (Ask D)) (e : Entry) → ¬ (EndsRun e)
-      → MayFollow derives steep spans (asking told asks) e
-      → MayFollow derives steep spans (asking told (asks ++ more)) e
+      → MayFollow ComesTo steep spans (asking told asks) e
+      → MayFollow ComesTo steep spans (asking told (asks ++ more)) e
   may_follow-more told asks more (entry.Result e) goes m =
       record { going = m.going; due = m.due; replies = tt; paced = m.paced }
   may_follow-more told [] more (entry.Beat h) goes m = absurd m.replies
@@ -58,7 +59,9 @@ module _ {P D : Type 0} (derives : P → D → Result P ℕ) (steep : P → ℕ)
         going = m.going;
         due = m.due;
         replies = record {
-          unrefused = r.unrefused;
+          derived = r.derived;
+          alone = r.alone;
+          room = r.room;
           next = r.next;
           rising = r.rising;
           above = r.above;
@@ -96,10 +99,10 @@ module _ {P D : Type 0} (derives : P → D → Result P ℕ) (steep : P → ℕ)
 
   -- and it leaves the later ones
   after-more : (told : Told P D) (asks more : List (Ask D)) (e : Entry)
-      → MayFollow derives steep spans (asking told asks) e → ¬ (EndsRun e)
-      → after_entry derives (asking told (asks ++ more)) e
-      ≡ asking (after_entry derives (asking told asks) e)
-      ((after_entry derives (asking told asks) e).asks ++ more)
+      → MayFollow ComesTo steep spans (asking told asks) e → ¬ (EndsRun e)
+      → after_entry target (asking told (asks ++ more)) e
+      ≡ asking (after_entry target (asking told asks) e)
+      ((after_entry target (asking told asks) e).asks ++ more)
   after-more told asks more (entry.Result e) m goes = refl
   after-more told asks more (entry.Beat h) m goes = refl
   after-more told [] more (entry.Accepted k t) m goes = absurd m.replies
@@ -118,27 +121,27 @@ module _ {P D : Type 0} (derives : P → D → Result P ℕ) (steep : P → ℕ)
 
   -- entries may follow still where more is asked for later
   pub Follow-more : (told : Told P D) (more : List (Ask D)) (es : List Entry) → GoesOn es
-      → Follow derives steep spans told es
-      → Follow derives steep spans (asking told (told.asks ++ more)) es
+      → Follow target ComesTo steep spans told es
+      → Follow target ComesTo steep spans (asking told (told.asks ++ more)) es
   Follow-more told more [] goes follow = tt
   Follow-more told more (e ∷ es) goes follow = (
     may_follow-more told told.asks more e goes.0 follow.0,
-    subst (λ (t : Told P D). Follow derives steep spans t es)
+    subst (λ (t : Told P D). Follow target ComesTo steep spans t es)
         (sym (after-more told told.asks more e follow.0 goes.0))
-        (Follow-more (after_entry derives told e) more es goes.1 follow.1),
+        (Follow-more (after_entry target told e) more es goes.1 follow.1),
   )
 
   pub after_entries-more : (told : Told P D) (more : List (Ask D)) (es : List Entry) → GoesOn es
-      → Follow derives steep spans told es
-      → after_entries derives (asking told (told.asks ++ more)) es
-      ≡ asking (after_entries derives told es) ((after_entries derives told es).asks ++ more)
+      → Follow target ComesTo steep spans told es
+      → after_entries target (asking told (told.asks ++ more)) es
+      ≡ asking (after_entries target told es) ((after_entries target told es).asks ++ more)
   after_entries-more told more [] goes follow = refl
   after_entries-more told more (e ∷ es) goes follow =
       let step = after-more told told.asks more e follow.0 goes.0 in
-      subst (λ (t : Told P D). after_entries derives t es
-      ≡ asking (after_entries derives told (e ∷ es))
-      ((after_entries derives told (e ∷ es)).asks ++ more)) (sym step)
-      (after_entries-more (after_entry derives told e) more es goes.1 follow.1)
+      subst (λ (t : Told P D). after_entries target t es
+      ≡ asking (after_entries target told (e ∷ es))
+      ((after_entries target told (e ∷ es)).asks ++ more)) (sym step)
+      (after_entries-more (after_entry target told e) more es goes.1 follow.1)
 
   -- ---- a threaded run, whose calls know the heartbeat of the inputs and whose script what was
   -- awaited
@@ -147,8 +150,8 @@ module _ {P D : Type 0} (derives : P → D → Result P ℕ) (steep : P → ℕ)
   -- no higher was awaited.
   pub awaited-drain : (told : Told P D) (others : List (Ask D)) (inputs end low : ℕ) (e : Entry)
       → low ≤ inputs
-      → MayFollow derives steep spans (asking told (Drains (Taken inputs end) ∷ others)) e
-      → MayFollow derives steep spans (asking told (Drains (Awaited low) ∷ others)) e
+      → MayFollow ComesTo steep spans (asking told (Drains (Taken inputs end) ∷ others)) e
+      → MayFollow ComesTo steep spans (asking told (Drains (Awaited low) ∷ others)) e
   awaited-drain told others inputs end low (entry.Result e) h m =
       record { going = m.going; due = m.due; replies = tt; paced = m.paced }
   awaited-drain told others inputs end low (entry.Beat b) h m =
@@ -175,8 +178,8 @@ module _ {P D : Type 0} (derives : P → D → Result P ℕ) (steep : P → ℕ)
 
   pub awaited-migrate : (told : Told P D) (others : List (Ask D)) (d : D) (inputs end low : ℕ)
       (e : Entry)
-      → MayFollow derives steep spans (asking told (Migrates d (Taken inputs end) ∷ others)) e
-      → MayFollow derives steep spans (asking told (Migrates d (Awaited low) ∷ others)) e
+      → MayFollow ComesTo steep spans (asking told (Migrates d (Taken inputs end) ∷ others)) e
+      → MayFollow ComesTo steep spans (asking told (Migrates d (Awaited low) ∷ others)) e
   awaited-migrate told others d inputs end low (entry.Result e) m =
       record { going = m.going; due = m.due; replies = tt; paced = m.paced }
   awaited-migrate told others d inputs end low (entry.Beat b) m = absurd m.replies
@@ -186,7 +189,9 @@ module _ {P D : Type 0} (derives : P → D → Result P ℕ) (steep : P → ℕ)
         going = m.going;
         due = m.due;
         replies = record {
-          unrefused = r.unrefused;
+          derived = r.derived;
+          alone = r.alone;
+          room = r.room;
           next = r.next;
           rising = r.rising;
           above = r.above;

@@ -1,6 +1,6 @@
 -- Entries that may follow while a part of the intervals is known may follow with all of them, as
 -- long as the heartbeat of the inputs is one below which no other interval starts.
-use Rattle.std.proofs.Common.{◌≡◌, ℕ, ◌+◌, ◌≤◌, List, [], ◌∷◌, Result, sym, subst}
+use Rattle.std.proofs.Common.{◌≡◌, ℕ, ◌+◌, ◌≤◌, List, [], ◌∷◌, Option, sym, subst}
 use Rattle.std.specs.Prelude.{⊤}
 use Rattle.pipes_stream.specs.declared.Elem.{Elem}
 use Rattle.pipes_output.specs.declared.entry.Entry.{Entry}
@@ -31,13 +31,14 @@ SpeaksUpTo beat told entry.Ended = ⊤
 SpeaksUpTo beat told entry.Stopped = ⊤
 
 -- each where it stands
-abbrev pub AllSpeakUpTo : {P D : Type 0} → (P → D → Result P ℕ) → ℕ → Told P D → List Entry → Type 0
-AllSpeakUpTo derives beat told [] = ⊤
-AllSpeakUpTo derives beat told (e ∷ es) =
-    SpeaksUpTo beat told e × AllSpeakUpTo derives beat (after_entry derives told e) es
+abbrev pub AllSpeakUpTo : {P D : Type 0} → (D → P) → ℕ → Told P D → List Entry → Type 0
+AllSpeakUpTo target beat told [] = ⊤
+AllSpeakUpTo target beat told (e ∷ es) =
+    SpeaksUpTo beat told e × AllSpeakUpTo target beat (after_entry target told e) es
 
-module _ {P D : Type 0} (derives : P → D → Result P ℕ) (steep : P → ℕ) (beat : ℕ)
-    (known all : List Elem) (grown : Grown beat known all) where
+module _ {P D : Type 0} (target : D → P) (ComesTo : P → D → Option ℕ → Type 0)
+    (steep : P → ℕ) (beat : ℕ) (known all : List Elem)
+    (grown : Grown beat known all) where
   pub least-grown : (told : Told P D) (inputs : ℕ) → inputs ≤ beat
       → least_output steep all told inputs ≡ least_output steep known told inputs
   least-grown told inputs low =
@@ -64,7 +65,7 @@ module _ {P D : Type 0} (derives : P → D → Result P ℕ) (steep : P → ℕ)
   refused-grown told (Drains i ∷ asks) up p = timely-grown told i up p
 
   pub may_follow-grown : (told : Told P D) (e : Entry) → SpeaksUpTo beat told e
-      → MayFollow derives steep known told e → MayFollow derives steep all told e
+      → MayFollow ComesTo steep known told e → MayFollow ComesTo steep all told e
   may_follow-grown told (entry.Result e) up m =
       record { going = m.going; due = m.due; replies = tt; paced = m.paced }
   may_follow-grown told (entry.Beat h) up m =
@@ -105,10 +106,10 @@ module _ {P D : Type 0} (derives : P → D → Result P ℕ) (steep : P → ℕ)
   may_follow-grown told entry.Stopped up m =
       record { going = m.going; due = m.due; replies = m.replies; paced = m.paced }
 
-  pub Follow-grown : (told : Told P D) (es : List Entry) → AllSpeakUpTo derives beat told es
-      → Follow derives steep known told es → Follow derives steep all told es
+  pub Follow-grown : (told : Told P D) (es : List Entry) → AllSpeakUpTo target beat told es
+      → Follow target ComesTo steep known told es → Follow target ComesTo steep all told es
   Follow-grown told [] up follow = tt
   Follow-grown told (e ∷ es) up follow = (
     may_follow-grown told e up.0 follow.0,
-    Follow-grown (after_entry derives told e) es up.1 follow.1,
+    Follow-grown (after_entry target told e) es up.1 follow.1,
   )

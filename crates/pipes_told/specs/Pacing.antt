@@ -1,6 +1,6 @@
 -- When migrations are told to be idle and over, what a drain tells, and which entry may come next.
 use Rattle.std.specs.Prelude.{◌≡◌, ◌⊎◌, ◌↔◌, ℕ, ◌+◌, ◌≤◌, ◌<◌, max, List, [], ◌∷◌, length}
-use Rattle.std.specs.Prelude.{true, false, Option, Some, None, Result, IsTrue, ⊤}
+use Rattle.std.specs.Prelude.{true, false, Option, Some, None, IsTrue, ⊤}
 use Rattle.pipes_time.specs.Interval.{closed}
 use Rattle.pipes_stream.specs.declared.Elem.{Elem}
 use Rattle.pipes_output.specs.declared.entry.Entry.{Entry}
@@ -116,17 +116,20 @@ module _ {Plan Derivation : Type 0} (steep : Plan → ℕ) (spans : List Elem) w
   Paced told entry.Ended = EachMove IsOver told.moves
   Paced told entry.Stopped = EachMove IsOver told.moves
 
--- One more parameter: what derivations make of plans.
-module _ {Plan Derivation : Type 0} (derives : Plan → Derivation → Result Plan ℕ)
+-- One more parameter: what a derivation comes to from a plan.
+module _ {Plan Derivation : Type 0} (ComesTo : Plan → Derivation → Option ℕ → Type 0)
     (steep : Plan → ℕ) (spans : List Elem) where
   -- an entry that may be written next
   pub record MayFollow (told : Told Plan Derivation) (e : Entry) : Type 0 where
     pub going : told.ended ≡ false
     pub due : told.beat ≡ beat_before e
-    pub replies : Replies derives told e
+    pub replies : Replies ComesTo told e
     pub paced : Paced steep spans told e
 
+-- And another: the plan that a derivation is to lead to.
+module _ {Plan Derivation : Type 0} (target : Derivation → Plan)
+    (ComesTo : Plan → Derivation → Option ℕ → Type 0) (steep : Plan → ℕ) (spans : List Elem) where
   -- entries that may be written one after another
   abbrev pub Follow : Told Plan Derivation → List Entry → Type 0
   Follow told [] = ⊤
-  Follow told (e ∷ es) = MayFollow told e × Follow (after_entry derives told e) es
+  Follow told (e ∷ es) = MayFollow ComesTo steep spans told e × Follow (after_entry target told e) es

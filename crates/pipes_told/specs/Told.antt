@@ -1,6 +1,6 @@
 -- What the entries of a run tell: its plan now, its migrations, and which commands have a reply.
 use Rattle.std.specs.Prelude.{ℕ, ◌+◌, List, [], ◌∷◌, drop, Bool, true, false, if◌then◌else◌, Option}
-use Rattle.std.specs.Prelude.{Some, None, Result, Ok, Err}
+use Rattle.std.specs.Prelude.{Some, None}
 use Rattle.pipes_output.specs.declared.entry.Entry.{Entry}
 use Rattle.pipes_output.specs.declared.entry.Entry.TheVariants as entry
 use Rattle.pipes_told.specs.Asks.{Ask, Migrates, Drains}
@@ -72,13 +72,8 @@ now_over (m ∷ ms) = record m { over = true } ∷ ms
 
 -- ---- entry by entry
 
--- the plan that is made of this one, which stays where a step fails
-abbrev pub plan_made : {Plan : Type 0} → Plan → Result Plan ℕ → Plan
-plan_made plan (Err step) = plan
-plan_made plan (Ok new) = new
-
--- What a derivation makes of a plan, or the number of its first step that fails, is a parameter.
-module _ {Plan Derivation : Type 0} (derives : Plan → Derivation → Result Plan ℕ) where
+-- The plan that a derivation is to lead to is a parameter.
+module _ {Plan Derivation : Type 0} (target : Derivation → Plan) where
   -- the next command was accepted with this split
   abbrev pub accepted : Told Plan Derivation → ℕ → List (Ask Derivation) → Told Plan Derivation
   accepted told split [] = told
@@ -86,7 +81,7 @@ module _ {Plan Derivation : Type 0} (derives : Plan → Derivation → Result Pl
   accepted told split (Migrates derivation inputs ∷ later) = record told {
     asks = later;
     replies = told.replies + 1;
-    plan = plan_made told.plan (derives told.plan derivation);
+    plan = target derivation;
     earlier = told.plan ∷ told.earlier;
     moves = new_move split ∷ told.moves;
   }

@@ -28,7 +28,7 @@ use Rattle.pipes_semantics.specs.Right.{NeverFall}
 use Rattle.pipes_written.specs.Written.{Answers, IsTyped, IsWritten, results_of, level_after}
 use Rattle.pipes_written.specs.Written.{Continues}
 use Rattle.pipes_written.specs.declared.output.Output.{Output}
-use Rattle.pipes_written.specs.Made.{last_entry, drained, Made}
+use Rattle.pipes_written.specs.Made.{last_entry, drained, Made, TellsMove}
 use Rattle.pipes_written.proofs.Splits.{results-append, starts-append, results-map, starts-map}
 use Rattle.pipes_written.proofs.Splits.{rising-append, found-in}
 
@@ -146,6 +146,42 @@ module _ (kinds : List Kind) (answer : Answers) where
       none [] after h e = cc
       none (x ∷ []) after h e = cc
       none (x ∷ y ∷ middle) after h e = cc
+
+  pub written-move : (m : ℕ) (es : List Entry) (e : Entry) → TellsMove e
+      → IsWritten kinds answer m es → IsWritten kinds answer m (es ++ e ∷ [])
+  written-move m es (entry.Result x) tells w = absurd tells
+  written-move m es (entry.Beat b) tells w = absurd tells
+  written-move m es (entry.Accepted number split) tells w =
+      written-plain m es (entry.Accepted number split) refl refl none w
+    where
+      none : NoBeat (entry.Accepted number split ∷ [])
+      none [] after h e = cc
+      none (x ∷ []) after h e = cc
+      none (x ∷ y ∷ middle) after h e = cc
+  written-move m es (entry.Refused command why) tells w =
+      written-plain m es (entry.Refused command why) refl refl none w
+    where
+      none : NoBeat (entry.Refused command why ∷ [])
+      none [] after h e = cc
+      none (x ∷ []) after h e = cc
+      none (x ∷ y ∷ middle) after h e = cc
+  written-move m es (entry.Idle number) tells w =
+      written-plain m es (entry.Idle number) refl refl none w
+    where
+      none : NoBeat (entry.Idle number ∷ [])
+      none [] after h e = cc
+      none (x ∷ []) after h e = cc
+      none (x ∷ y ∷ middle) after h e = cc
+  written-move m es (entry.Over number) tells w =
+      written-plain m es (entry.Over number) refl refl none w
+    where
+      none : NoBeat (entry.Over number ∷ [])
+      none [] after h e = cc
+      none (x ∷ []) after h e = cc
+      none (x ∷ y ∷ middle) after h e = cc
+  written-move m es (entry.Drained inputs output) tells w = absurd tells
+  written-move m es entry.Ended tells w = absurd tells
+  written-move m es entry.Stopped tells w = absurd tells
 
 -- ---- results
 

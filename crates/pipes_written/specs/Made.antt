@@ -1,6 +1,6 @@
 -- What the calls of an output do.
 use Rattle.std.specs.Prelude.{◌≡◌, ℕ, ◌≤◌, ◌+◌, Bool, true, false, List, [], ◌∷◌, ◌++◌, vec_len}
-use Rattle.std.specs.Prelude.{vec_capacity}
+use Rattle.std.specs.Prelude.{vec_capacity, ⊤}
 use Rattle.pipes_stream.specs.declared.message.Message.{Message}
 use Rattle.pipes_output.specs.declared.entry.Entry.{Entry}
 use Rattle.pipes_output.specs.declared.entry.Entry.TheVariants as entry
@@ -25,6 +25,18 @@ HasRoom o n = vec_len o.entries + n ≤ vec_capacity o.entries
 abbrev pub last_entry : Bool → Entry
 last_entry true = entry.Stopped
 last_entry false = entry.Ended
+
+-- an entry that tells of a migration: its reply, that it is idle, or that it is over
+abbrev pub TellsMove : Entry → Type 0
+TellsMove (entry.Result e) = ⊥
+TellsMove (entry.Beat h) = ⊥
+TellsMove (entry.Accepted number split) = ⊤
+TellsMove (entry.Refused command why) = ⊤
+TellsMove (entry.Idle number) = ⊤
+TellsMove (entry.Over number) = ⊤
+TellsMove (entry.Drained inputs output) = ⊥
+TellsMove entry.Ended = ⊥
+TellsMove entry.Stopped = ⊥
 
 -- the entries of a drain
 abbrev pub drained : ℕ → ℕ → List Entry

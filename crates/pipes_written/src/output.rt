@@ -63,7 +63,7 @@ fn last(stopped: bool) -> Entry
 }
 
 impl Output {
-    ghost use Rattle.pipes_written.specs.Made.{Made, Adds, HasRoom, drained};
+    ghost use Rattle.pipes_written.specs.Made.{Made, Adds, HasRoom, TellsMove, drained};
 
     /// Nothing was written yet.
     pub fn new(alloc: Global) -> Output
@@ -145,6 +145,28 @@ impl Output {
             inputs,
             output: self.beat,
         });
+    }
+
+    /// Makes room for so many more entries.
+    pub fn reserve(&mut self, room: usize) -> Result<(), Memory>
+        ensures room { OnOk result (HasRoom self.new room) }
+        ensures adds { Adds self.old self.new [] }
+    {
+        self.entries.reserve(room)?;
+        Ok(())
+    }
+
+    /// Tells of a migration: the reply to what was asked for, that it is idle, or that it is over.
+    pub fn tell(&mut self, entry: Entry)
+        requires room { HasRoom self.old 1 }
+        requires of_move { TellsMove entry }
+        ensures adds { Adds self.old self.new (entry ∷ []) }
+        ensures written { (kinds : List Kind) (answer : Answers) (entries : List Line)
+            → IsWritten kinds answer self.old.beat entries
+            → IsWritten kinds answer self.new.beat (entries ++ entry ∷ []) }
+        ensures left { (n : ℕ) → HasRoom self.old (n + 1) → HasRoom self.new n }
+    {
+        self.entries.push_reserved(entry);
     }
 
     /// Tells that the run has ended, or was stopped.

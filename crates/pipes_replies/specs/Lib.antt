@@ -1,0 +1,3 @@
+pub mod Leading
+pub mod Keeping
+pub mod Telling

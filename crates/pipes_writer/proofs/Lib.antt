@@ -1,0 +1,4 @@
+pub mod Certain
+pub mod Lines
+pub mod Forms
+pub mod Calls
