@@ -45,6 +45,7 @@ pub takes-after : (old mid new : Feeder) (x : Item) → FeederKeeps old mid → 
     → FeederTakes mid new x → FeederTakes old new x
 takes-after old mid new x k same t = record {
   packer = subst (λ (p : Packing). SamePacker p new.packer) same t.packer;
+  unfailed = t.unfailed;
   link = search (rules, k.link, t.link);
   finished = t.finished ∙ k.finished;
   stands = λ before arrivals h. t.stands before arrivals
@@ -57,6 +58,7 @@ pub ends-after : (old mid new : Feeder) → FeederEnds old mid → FeederKeeps m
     → new.packer ≡ mid.packer → FeederEnds old new
 ends-after old mid new e k same = record {
   packer = subst (λ (p : Packing). SamePacker old.packer p) (sym same) e.packer;
+  unfailed = ap (λ (p : Packing). p.failed) same ∙ e.unfailed;
   link = search (rules, e.link, k.link);
   finished = k.finished ∙ e.finished;
   stands = λ before arrivals h.

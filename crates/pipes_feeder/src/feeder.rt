@@ -1,22 +1,24 @@
 // The feeder of one source.
-ghost use Rattle.std.specs.Prelude.{◌≡◌, ◌≢◌, ◌≤◌, ◌<◌, [], false, true, IfOk, IfErr, OnOk, OnErr};
-ghost use Rattle.std.specs.Prelude.{IsErrOf, ℕ, Err};
+ghost use Rattle.std.specs.Prelude.{◌≡◌, ◌≢◌, ◌≤◌, ◌<◌, ◌+◌, [], ◌++◌, false, true, OnOk, OnErr};
+ghost use Rattle.std.specs.Prelude.{IfErr, IsErr, ℕ, Err};
 ghost use Rattle.std.specs.Arc.{arc_value};
 ghost use Rattle.pipes_window.specs.Items.{item_stamp};
 ghost use Rattle.pipes_window.specs.Windows.{IsWindow};
-ghost use Rattle.pipes_link.specs.Ends.{sent, spare};
+ghost use Rattle.pipes_link.specs.Ends.{AreEnds, SameInlet, SameOutlet, room_of, sent, spare};
+ghost use Rattle.pipes_link.specs.Ends.{known, taken};
 ghost use Rattle.pipes_split.specs.Seats.{IsSeatOf, IsSameSeat};
 ghost use Rattle.pipes_split.specs.Views.{seat_view};
 ghost use Rattle.pipes_split.specs.Knowledge.{seat_knows, KnowsSame, SplitsShared, EndsBelowSplits};
 ghost use Rattle.pipes_arrivals.specs.Arriving.{floor_of};
 ghost use Rattle.pipes_feeder.specs.Feeding.{FeederEnds, FeederKeeps, FeederStands, FeederTakes};
-ghost use Rattle.pipes_feeder.specs.Feeding.{OfferRefused};
+ghost use Rattle.pipes_feeder.specs.Feeding.{FeederStays, HandsOver, IsFresh, OfferRefused};
+ghost use Rattle.pipes_feeder.specs.Feeding.{LeavesFewerPending};
 ghost use Rattle.pipes_feeder.specs.declared.feeder.FinishRefusal.TheVariants as finish;
 ghost use Rattle.pipes_feeder.specs.declared.feeder.OfferRefusal.TheVariants as offer;
 ghost use Rattle.std.specs.Bool.{OnTrue, OnFalse};
 
-use crate::sending::put_pending;
-use pipes_link::Outlet;
+use crate::sending::{put_pending, take_all};
+use pipes_link::{Inlet, Outlet, settle};
 use pipes_packer::Packer;
 use pipes_parcel::Fed;
 use pipes_query::SourceDecl;
@@ -87,9 +89,9 @@ impl Feeder {
         requires seat { IsSeatOf (arc_value book) seat }
         requires raised { (e : ℕ) → (seat_knows seat).top e ≡ 0 }
         requires link { sent outlet ≡ [] }
-        ensures stands { FeederStands [] [] result }
+        ensures fresh { IsFresh decl.now [] result }
         ensures seat { result.packer.seat ≡ seat }
-        ensures begins { result.finished ≡ false }
+        ensures outlet { result.outlet ≡ outlet }
     {
         let Some(packer) = Packer::new(alloc, book, seat, decl.slack, decl.window) else {
             unreachable!();
@@ -102,8 +104,9 @@ impl Feeder {
         }
     }
 
-    // Takes an arrival, where nothing is pending, and puts its messages.
-    fn take(&mut self, arrival: Item) -> Result<(), Memory>
+    /// Takes an arrival that isn't below the floor, and puts as many of its messages as find room,
+    /// after those that are pending. Once out of memory it takes nothing more.
+    pub fn take(&mut self, arrival: Item) -> Result<(), Memory>
         requires order { floor_of self.old.packer.arriving ≤ item_stamp arrival }
         requires below { item_stamp arrival < HORIZON }
         requires goes_on { self.old.packer.arriving.window.ended ≡ false }
@@ -116,12 +119,14 @@ impl Feeder {
         Ok(())
     }
 
-    // Puts what is pending as far as one look finds places, and whether nothing is pending then.
-    fn clear(&mut self) -> bool
+    /// Puts what is pending as far as one look finds places, and whether nothing is pending then.
+    pub fn clear(&mut self) -> bool
         ensures keeps { FeederKeeps self.old self.new }
+        ensures stays { FeederStays self.old self.new }
         ensures packer { self.new.packer ≡ self.old.packer }
         ensures clear { OnTrue result (self.new.pending.items ≡ []) }
         ensures full { OnFalse result (spare self.new.outlet ≡ 0) }
+        ensures fewer { OnFalse result (LeavesFewerPending self.old self.new) }
     {
         put_pending(&mut self.pending, &mut self.outlet);
         self.pending.is_empty()
@@ -134,6 +139,7 @@ impl Feeder {
         ensures ends { OnOk result (FeederEnds self.old self.new) }
         ensures keeps { OnErr result (FeederKeeps self.old self.new) }
         ensures failed { OnErr result (self.new.packer.failed ≡ true) }
+        ensures stays_failed { OnTrue self.old.packer.failed (IsErr result) }
     {
         self.packer.finish(&mut self.pending)?;
         self.finished = true;
@@ -147,6 +153,7 @@ impl Feeder {
         ensures sent { OnOk result (self.new.pending.items ≡ []) }
         ensures full { OnErr result (spare self.new.outlet ≡ 0) }
         ensures refused { OnErr result (result ≡ Err finish.Full) }
+        ensures fewer { OnErr result (LeavesFewerPending self.old self.new) }
     {
         if self.clear() {
             return Ok(());
@@ -196,6 +203,11 @@ impl Feeder {
         ensures again { self.old.finished ≡ true → FeederKeeps self.old self.new }
         ensures sent { OnOk result (self.new.pending.items ≡ []) }
         ensures full { result ≡ Err finish.Full → spare self.new.outlet ≡ 0 }
+        ensures fewer { self.old.finished ≡ true
+            → OnErr result (LeavesFewerPending self.old self.new) }
+        ensures packer { self.old.finished ≡ true → self.new.packer ≡ self.old.packer }
+        ensures stays_failed { self.old.finished ≡ false → self.old.packer.failed ≡ true
+            → result ≡ Err finish.Memory }
         ensures memory { result ≡ Err finish.Memory
             → FeederKeeps self.old self.new × (self.new.packer.failed ≡ true) }
     {
@@ -218,11 +230,34 @@ impl Feeder {
         ensures knows { KnowsSame (seat_knows to.old) (seat_knows to.new) }
         ensures shared { SplitsShared (seat_knows self.old.packer.seat) (seat_knows to.old) }
         ensures below { EndsBelowSplits (seat_knows self.old.packer.seat) (seat_knows to.old) }
-        ensures arriving { self.new.packer.arriving ≡ self.old.packer.arriving }
+        ensures stays { FeederStays self.old self.new }
         ensures outlet { self.new.outlet ≡ self.old.outlet }
         ensures pending { self.new.pending ≡ self.old.pending }
-        ensures finished { self.new.finished ≡ self.old.finished }
     {
         self.packer.agree(to);
+    }
+
+    /// Takes all that was sent and not taken yet out at the other end of the link, and appends it to
+    /// `out`. All places of the link are free then. Out of memory, nothing is taken.
+    pub fn hand_over(&mut self, inlet: &mut Inlet<Fed>, out: &mut Vec<Fed>) -> Result<(), Memory>
+        requires { AreEnds self.old.outlet inlet.old }
+        ensures ends { AreEnds self.new.outlet inlet.new }
+        ensures outlet { SameOutlet self.old.outlet self.new.outlet }
+        ensures inlet { SameInlet inlet.old inlet.new }
+        ensures stays { FeederStays self.old self.new }
+        ensures packer { self.new.packer ≡ self.old.packer }
+        ensures sent { sent self.new.outlet ≡ sent self.old.outlet }
+        ensures pending { self.new.pending ≡ self.old.pending }
+        ensures hands { HandsOver inlet.old inlet.new out.old.items out.new.items }
+        ensures waits { taken inlet.new ++ known inlet.new ≡ sent self.new.outlet }
+        ensures all { OnOk result (taken inlet.new ≡ sent self.new.outlet) }
+        ensures free { OnOk result (spare self.new.outlet ≡ room_of self.new.outlet) }
+        ensures memory { OnErr result (out.new.items ≡ out.old.items) }
+    {
+        let waiting = settle(&mut self.outlet, inlet);
+        out.reserve(waiting as usize)?;
+        take_all(inlet, out);
+        settle(&mut self.outlet, inlet);
+        Ok(())
     }
 }

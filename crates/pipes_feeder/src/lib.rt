@@ -5,3 +5,4 @@ mod feeder;
 mod sending;
 
 pub use feeder::{Feeder, FinishRefusal, OfferRefusal};
+pub use sending::take_all;

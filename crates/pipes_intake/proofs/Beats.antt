@@ -1,17 +1,17 @@
 -- The heartbeat of a window never falls, and lies below the horizon or at it.
-use Rattle.std.proofs.Common.{◌≡◌, ℕ, zero, suc, ◌+◌, ◌-◌, ◌≤◌, ◌<◌, List, [], ◌∷◌, ◌++◌, length, drop}
-use Rattle.std.proofs.Common.{Option, Some, None, false, refl, sym, ◌∙◌, ap, subst, arith, slice_get}
+use Rattle.std.proofs.Common.{ℕ, zero, suc, ◌-◌, ◌≤◌, ◌<◌, List, [], ◌∷◌, ◌++◌, length, drop}
+use Rattle.std.proofs.Common.{false, sym, subst, arith, slice_get}
 use Rattle.std.proofs.Common.{append_assoc}
 use Rattle.std.specs.Option.{option_map_or}
 use Rattle.std.proofs.lemmas.List.{append-nil}
-use Rattle.pipes_time.specs.Interval.{horizon, closed}
+use Rattle.pipes_time.specs.Interval.{horizon}
 use Rattle.pipes_window.specs.declared.item.Item.{Item}
 use Rattle.pipes_window.specs.declared.item.Item.TheVariants as items
 use Rattle.pipes_window.specs.declared.kind.WindowKind.{WindowKind}
 use Rattle.pipes_window.specs.declared.kind.WindowKind.TheVariants.{Time, Slide, Count}
 use Rattle.pipes_window.specs.declared.row.Row.{Row}
-use Rattle.pipes_window.specs.Items.{StampsRise, RisesFrom, rows_of, last_stamp, last_n}
-use Rattle.pipes_window.specs.Windows.{IsWindow, window_beat, oldest_stamp}
+use Rattle.pipes_window.specs.Items.{StampsRise, RisesFrom, rows_of, last_stamp}
+use Rattle.pipes_window.specs.Windows.{IsWindow, window_beat}
 use Rattle.pipes_window.proofs.Heartbeats.{item_law}
 
 rises-front : (low : ℕ) (xs ys : List Item) → RisesFrom low (xs ++ ys) → RisesFrom low xs

@@ -1,24 +1,23 @@
 -- A source that is read one arrival ahead.
-use Rattle.std.proofs.Common.{◌≡◌, ℕ, ◌≤◌, ◌<◌, List, [], ◌∷◌, ◌++◌, Option, Some, None, refl, sym}
+use Rattle.std.proofs.Common.{◌≡◌, ℕ, ◌≤◌, List, [], ◌∷◌, ◌++◌, Option, Some, None, refl, sym}
 use Rattle.std.proofs.Common.{◌∙◌, ap, subst, arith, append_assoc}
 use Rattle.std.specs.Option.{option_map}
 use Rattle.std.proofs.lemmas.List.{append-nil}
 use Rattle.pipes_tuple.specs.declared.value.Kind.{Kind}
 use Rattle.pipes_window.specs.declared.item.Item.{Item}
-use Rattle.pipes_window.specs.declared.item.Item.TheVariants as item
 use Rattle.pipes_feed.specs.declared.reason.Reason.{Reason}
 use Rattle.pipes_feed.specs.declared.reason.Reason.TheVariants as reason
 use Rattle.pipes_feed.specs.declared.reader.Next.{Next}
 use Rattle.pipes_feed.specs.declared.reader.Next.TheVariants as next
-use Rattle.pipes_feed.specs.Items.{Items, no_more, put, stamp_in, arrivals_of}
-use Rattle.pipes_feed.specs.Reached.{Reached, stamp_floor, newest_after, beat_after}
-use Rattle.pipes_feed.specs.Released.{Arrived, held_floor, held_after, rest_of, after_arrival}
+use Rattle.pipes_feed.specs.Items.{Items, no_more, put, arrivals_of}
+use Rattle.pipes_feed.specs.Reached.{newest_after, beat_after}
+use Rattle.pipes_feed.specs.Released.{Arrived, held_after, rest_of, after_arrival}
 use Rattle.pipes_feed.specs.State.{ReaderState}
 use Rattle.pipes_feed.specs.Ahead.{TakesArrival, ArrivalFollows, MatchNext, arrivals_ahead}
 use Rattle.pipes_edge.specs.Causes.{Rose}
 use Rattle.std.specs.Prelude.{⊤}
-use Rattle.pipes_intake.specs.Taken.{ArePart, EndsSo, ComesThen}
-use Rattle.pipes_intake.specs.Ahead.{held_of, MayArrive, HasReached, IsNext, HasTaken}
+use Rattle.pipes_intake.specs.Taken.{ArePart, ComesThen}
+use Rattle.pipes_intake.specs.Ahead.{HasReached, IsNext, HasTaken}
 use Rattle.pipes_intake.specs.declared.ahead.Ahead.{Ahead}
 
 -- these were taken, and the others lie ahead

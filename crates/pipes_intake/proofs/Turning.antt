@@ -1,5 +1,5 @@
 -- A source on its way in, from turn to turn and to its end.
-use Rattle.std.proofs.Common.{◌≡◌, ℕ, ◌≤◌, ◌<◌, List, [], ◌∷◌, ◌++◌, map, Option, true, false, refl, sym}
+use Rattle.std.proofs.Common.{◌≡◌, ℕ, ◌<◌, List, [], ◌∷◌, ◌++◌, map, Option, true, false, refl, sym}
 use Rattle.std.proofs.Common.{◌∙◌, ap, subst, arith, Some, Result, Ok, Err, IfOk}
 use Rattle.std.proofs.lemmas.List.{append-nil}
 use Rattle.std.proofs.lemmas.List.Elements.{All-nil}
@@ -10,8 +10,7 @@ use Rattle.pipes_stream.specs.declared.message.Message.TheVariants as message
 use Rattle.pipes_stream.specs.Lists.{run, start_of_list}
 use Rattle.pipes_window.specs.declared.item.Item.{Item}
 use Rattle.pipes_window.specs.declared.kind.WindowKind.{WindowKind}
-use Rattle.pipes_window.specs.Windows.{each_row, known, window_beat}
-use Rattle.pipes_feed.specs.declared.reason.Reason.{Reason}
+use Rattle.pipes_window.specs.Windows.{window_beat}
 use Rattle.pipes_feed.specs.declared.reason.Reason.TheVariants as reason
 use Rattle.pipes_feed.specs.declared.reader.Next.{Next}
 use Rattle.pipes_feed.specs.declared.reader.Next.TheVariants as next
@@ -28,11 +27,8 @@ use Rattle.pipes_intake.specs.declared.intake.Turned.TheVariants.{Gave, Stopped}
 use Rattle.pipes_intake.specs.Ahead.{HasTaken, IsNext, MayArrive, turns_left}
 use Rattle.pipes_intake.specs.Giving.{MayPassAll, HasGiven, GoesOn, IntakeStands, TurnsTo, Finishes}
 use Rattle.pipes_intake.specs.Giving.{messages_of, turns_to_come, LeavesFewer}
+use Rattle.pipes_intake.proofs.Known.{known-none}
 use Rattle.pipes_intake.proofs.Giving.{gives-more, may-give, gives-all, may-close}
-
-known-none : (kind : WindowKind) → known kind [] ≡ []
-unfolding each_row
-known-none kind = refl
 
 -- nothing was taken
 pub goes-new : (s : SourceDecl) (a : Arriving) → a ≡ new_arriving s.slack s.window

@@ -5,7 +5,6 @@ use Rattle.pipes_time.specs.Interval.{horizon}
 use Rattle.pipes_tuple.specs.declared.value.Kind.{Kind}
 use Rattle.pipes_edge.specs.Causes.{Rose}
 use Rattle.pipes_window.specs.declared.item.Item.{Item}
-use Rattle.pipes_feed.specs.declared.reason.Reason.{Reason}
 use Rattle.pipes_feed.specs.declared.reason.Reason.TheVariants as reason
 use Rattle.pipes_feed.specs.declared.reader.Next.{Next}
 use Rattle.pipes_feed.specs.declared.reader.Next.TheVariants as next

@@ -3,6 +3,7 @@ use Rattle.std.proofs.Common.{◌≡◌, ℕ, ◌≤◌, ◌<◌, false, List, [
 use Rattle.std.proofs.Common.{Option, Some, refl, sym, ◌∙◌, ap, subst, arith, append_assoc}
 use Rattle.std.proofs.Common.{append-nil}
 use Rattle.std.specs.List.{All}
+use Rattle.std.proofs.lemmas.List.Elements.{All-weaker, All-contains}
 use Rattle.pipes_time.specs.Interval.{horizon, closed}
 use Rattle.pipes_tuple.specs.declared.value.Value.{Value}
 use Rattle.pipes_tuple.specs.declared.value.Kind.{Kind}
@@ -27,6 +28,7 @@ use Rattle.pipes_box.specs.Shapes.{shape_of}
 use Rattle.pipes_box.specs.Prompt.{lag_of, floors}
 use Rattle.pipes_box.specs.Boxes.{IsStill}
 use Rattle.pipes_works.specs.Sources.{AnswersSources, KeepsUpWithSources, Reads, AllReached}
+use Rattle.pipes_works.specs.Sources.{IsCoveredBySource}
 use Rattle.pipes_works.specs.Standing.{WorksStand, MayCome, Puts}
 use Rattle.pipes_written.specs.declared.output.Output.{Output}
 use Rattle.pipes_written.specs.Written.{Answers, IsWritten, Continues, results_of, level_after}
@@ -34,7 +36,7 @@ use Rattle.pipes_written.specs.Made.{Made, Adds}
 use Rattle.pipes_written.proofs.Splits.{results-append, results-map}
 use Rattle.pipes_written.proofs.Writes.{level-is}
 use Rattle.pipes_standing.specs.declared.standing.Standing.{Standing}
-use Rattle.pipes_standing.specs.Calms.{Rows, AllFed, answer_of, kinds_of, Calm, IsUpToDate}
+use Rattle.pipes_standing.specs.Calms.{Rows, AllFed, AllEndBy, answer_of, kinds_of, Calm, IsUpToDate}
 use Rattle.pipes_standing.specs.Calms.{TakesIn, Settles, nothing_more}
 
 -- bags of which both parts are the same
@@ -46,6 +48,19 @@ both-same a b c d t same e =
     (subst (SameBag (snapshot a t ++ snapshot c t)) (sym (snapshot-append b d t))
     (SameBag-append same (subst (λ (xs : List Elem). SameBag (snapshot c t) (snapshot xs t)) e
     (SameBag-refl (snapshot c t)))))
+
+-- what comes to the top ends no later than what the sources gave
+pub top-ends : (schemas : List (List Kind)) (plan : Plan) (by_source : Lists) (got : List Message)
+    (instant : ℕ) → AnswersSources schemas plan by_source got
+    → AllEndBy schemas plan instant by_source → All (λ e. e.span.end ≤ instant) (elements got)
+top-ends schemas plan by_source got instant answers ends =
+    All-weaker (IsCoveredBySource schemas plan by_source) (λ (e : Elem). e.span.end ≤ instant)
+    (λ e c. omega (
+      arith,
+      c.2.3,
+      All-contains (λ (d : Elem). d.span.end ≤ instant) (elements (by_source c.0)) c.2.0
+          (ends c.0 c.1) c.2.1,
+    )) (elements got) answers.spans
 
 module _ (schemas : List (List Kind)) (plan : Plan) (rows : Rows) (base : ℕ) (by_source : Lists)
     (got : List Message) (entries : List Entry) (old : Standing)
@@ -289,6 +304,17 @@ settles old new more sent is works answers keeps still empty made written = reco
             (subst (λ (l : List Message). Calm new schemas plan rows base by_source (got ++ more)
             (entries ++ results_of l)) (sym is) now),
       );
+  ends = λ schemas plan rows base by_source got entries calm instant ends.
+      let stands = works schemas plan by_source got calm.works in
+      let all = top-ends schemas plan by_source (got ++ more) instant
+      (answers schemas plan by_source (got ++ more) stands) ends in
+      let parts : elements (got ++ more) ≡ elements calm.seen ++ elements sent =
+      ap elements (ap (λ (l : List Message). l ++ more) calm.got_is
+      ∙ append_assoc calm.seen old.sent.items more
+      ∙ ap (λ (l : List Message). calm.seen ++ l) (sym is))
+      ∙ elements-append calm.seen sent in
+      (All-parts (λ (e : Elem). e.span.end ≤ instant) (elements calm.seen) (elements sent)
+      (subst (All (λ e. e.span.end ≤ instant)) parts all)).1;
 }
 
 -- and then entries that are no results
@@ -330,4 +356,5 @@ settles-then old mid new last none s works sent adds written =
                 (written (kinds_of schemas plan) (answer_of plan rows)
                 (entries ++ results_of s.sent)) first),
           );
+      ends = s.ends;
     }

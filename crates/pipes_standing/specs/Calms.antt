@@ -1,5 +1,6 @@
 -- A standing query: a plan at work over its sources, and what was written of its answer.
 use Rattle.std.specs.Prelude.{◌≡◌, ℕ, ◌≤◌, ◌<◌, Bool, List, [], ◌∷◌, ◌++◌, slice_get, unwrap_or}
+use Rattle.std.specs.List.{All}
 use Rattle.pipes_time.specs.Interval.{horizon, closed}
 use Rattle.pipes_tuple.specs.declared.value.Value.{Value}
 use Rattle.pipes_tuple.specs.declared.value.Kind.{Kind}
@@ -34,6 +35,11 @@ AllFed schemas plan rows base by_source = (source t : ℕ) → Reads schemas pla
     → t < horizon → t < beat (by_source source)
     → SameBag (snapshot (elements (by_source source)) t) (unwrap_or (slice_get (rows t) source) [])
 
+-- no element of a source that the plan reads ends above the instant
+abbrev pub AllEndBy : List (List Kind) → Plan → ℕ → Lists → Type 0
+AllEndBy schemas plan instant by_source = (source : ℕ) → Reads schemas plan source
+    → All (λ e. e.span.end ≤ instant) (elements (by_source source))
+
 -- the plan's answer at each instant
 abbrev pub answer_of : Plan → Rows → Answers
 answer_of plan rows t = alg plan (rows t)
@@ -41,6 +47,11 @@ answer_of plan rows t = alg plan (rows t)
 -- the kinds of the plan's results
 abbrev pub kinds_of : List (List Kind) → Plan → List Kind
 kinds_of schemas plan = unwrap_or (plan_kinds plan schemas) []
+
+-- At each instant the two plans have the same answer, and their results are of the same kinds.
+pub record AnswerAlike (schemas : List (List Kind)) (one other : Plan) (rows : Rows) : Type 0 where
+  pub kinds : kinds_of schemas other ≡ kinds_of schemas one
+  pub answers : (t : ℕ) → t < horizon → SameBag (answer_of other rows t) (answer_of one rows t)
 
 -- One plan stands for the query: each source gave this list, this one came to the top, and these
 -- entries were written since the start of the run. From the instant `base` on the plan answers
@@ -91,6 +102,12 @@ pub record Settles (old new : Standing) (last : ℕ → List Entry) : Type 0 whe
       → (now : List Message)
       × Calm new schemas plan rows base by_source now
       (entries ++ (results_of sent ++ last new.output.beat))
+  -- no result ends above an instant by which all ends that the sources gave
+  pub ends : (schemas : List (List Kind)) (plan : Plan) (rows : Rows) (base : ℕ)
+      (by_source : Lists) (got : List Message) (entries : List Entry)
+      → Calm old schemas plan rows base by_source got entries → (instant : ℕ)
+      → AllEndBy schemas plan instant by_source
+      → All (λ e. e.span.end ≤ instant) (elements sent)
 
 -- no entry more
 abbrev pub nothing_more : ℕ → List Entry

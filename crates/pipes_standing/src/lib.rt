@@ -3,4 +3,4 @@
 
 mod standing;
 
-pub use standing::Standing;
+pub use standing::{Parts, Standing};

@@ -40,9 +40,23 @@ pub struct Standing {
     pub(crate) failed: bool,
 }
 
+/// What a standing query is made of.
+#[derive(Drop)]
+pub struct Parts {
+    /// The plan at work.
+    pub works: Works,
+    /// What came to the top and is not written yet.
+    pub sent: Vec<Message>,
+    /// What was written.
+    pub output: Output,
+    /// Whether memory was wanting once, so that each later call answers that.
+    pub failed: bool,
+}
+
 impl Standing {
     ghost use Rattle.pipes_standing.specs.Calms.{Calm, Rows, IsSettled, TakesIn, Settles};
     ghost use Rattle.pipes_standing.specs.Calms.{MakesEntries, nothing_more, IsUpToDate};
+    ghost use Rattle.pipes_standing.specs.Calms.{AnswerAlike};
 
     /// The plan at work over sources with these schemas, by at most so many workers. Nothing has
     /// come, and nothing is written.
@@ -68,6 +82,39 @@ impl Standing {
             output: Output::new(alloc),
             failed: false,
         })
+    }
+
+    /// Takes the standing query apart.
+    pub fn into_parts(self) -> Parts
+        ensures works { result.works ≡ self.works }
+        ensures sent { result.sent ≡ self.sent }
+        ensures output { result.output ≡ self.output }
+        ensures failed { result.failed ≡ self.failed }
+    {
+        Parts {
+            works: self.works,
+            sent: self.sent,
+            output: self.output,
+            failed: self.failed,
+        }
+    }
+
+    /// Puts a standing query together. Nothing is said of how the parts belong together: `Calm` of
+    /// them is for the caller to show.
+    pub fn of_parts(parts: Parts) -> Standing
+        ensures { result ≡ record {
+          works = parts.works;
+          sent = parts.sent;
+          output = parts.output;
+          failed = parts.failed;
+        } }
+    {
+        Standing {
+            works: parts.works,
+            sent: parts.sent,
+            output: parts.output,
+            failed: parts.failed,
+        }
     }
 
     /// Takes a message of a source in, where it may come next; else it is passed over: where the
@@ -234,6 +281,23 @@ impl Standing {
             (got : List Sent) (entries : List Line)
             → Calm self.now (schemas_of query) query.plan (bags_at query.sources items) base
             by_source got entries → self.now.output.beat ≡ closed → Right query items entries }
+    {
+        self.output.tells();
+    }
+
+    /// So it is whichever plan is at work, if its answer is that of the query's plan at each
+    /// instant: a law, and nothing to run.
+    pub fn tells_alike(&self)
+        ensures order { (query : Query) (items : List (List Item)) (plan : Tree) (base : ℕ)
+            (by_source : Lists) (got : List Sent) (entries : List Line)
+            → AnswerAlike (schemas_of query) query.plan plan (bags_at query.sources items)
+            → Calm self.now (schemas_of query) plan (bags_at query.sources items) base by_source
+            got entries → Final query items entries }
+        ensures whole { (query : Query) (items : List (List Item)) (plan : Tree) (base : ℕ)
+            (by_source : Lists) (got : List Sent) (entries : List Line)
+            → AnswerAlike (schemas_of query) query.plan plan (bags_at query.sources items)
+            → Calm self.now (schemas_of query) plan (bags_at query.sources items) base by_source
+            got entries → self.now.output.beat ≡ closed → Right query items entries }
     {
         self.output.tells();
     }

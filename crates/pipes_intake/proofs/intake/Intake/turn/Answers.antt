@@ -1,10 +1,5 @@
-use Rattle.std.proofs.Common.{rules, ◌≡◌, ◌∙◌, ap, refl, sym, subst, ℕ, List, Option}
-use Rattle.pipes_feed.specs.declared.reader.Next.TheVariants as next
-use Rattle.pipes_query.specs.declared.query.SourceDecl.{SourceDecl}
-use Rattle.pipes_window.specs.declared.item.Item.{Item}
-use Rattle.pipes_stream.specs.declared.message.Message.{Message}
+use Rattle.std.proofs.Common.{◌∙◌, ap, refl, sym}
 use Rattle.pipes_intake.specs.declared.ahead.Ahead.{Ahead}
-use Rattle.pipes_intake.specs.Giving.{IntakeStands, StandsForSome, TurnsTo, LeavesFewer}
 use Rattle.pipes_intake.proofs.Turning.{turn-item, stays-stands, fewer-item, fewer-same}
 use Rattle.pipes_intake.proofs.Turning.{turned-same}
 use Rattle.pipes_intake.proofs.intake.Intake.turn.Goals as goal

@@ -1,0 +1,3 @@
+pub mod NodeReads
+pub mod FormReads
+pub mod StepReads

@@ -1,0 +1,9 @@
+pub mod Giving
+pub mod Telling
+pub mod Joining
+pub mod Sending
+pub mod Spans
+pub mod Openings
+pub mod Going
+pub mod Over
+pub mod Apart
