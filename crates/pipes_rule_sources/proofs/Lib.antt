@@ -1,3 +1,4 @@
 pub mod NodeReads
 pub mod FormReads
 pub mod StepReads
+pub mod LeafReads

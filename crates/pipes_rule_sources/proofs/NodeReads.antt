@@ -1,6 +1,6 @@
 -- Which sources a node reads, and what a form reads that takes a node apart.
-use Rattle.std.proofs.Common.{◌≡◌, ℕ, Bool, true, false, ◌||◌, cond, List, refl, sym, ap, ◌∙◌}
-use Rattle.std.proofs.Common.{subst, rules, Option, Some, None}
+use Rattle.std.proofs.Common.{◌≡◌, ℕ, Bool, true, false, ◌||◌, cond, List, refl, ap, ◌∙◌}
+use Rattle.std.proofs.Common.{rules, Option, Some, None}
 use Rattle.std.proofs.Math.Bool.{or_comm, or_assoc, or_self, or_self_left}
 use Rattle.std.specs.Option.{option_map}
 use Rattle.pipes_expr.specs.declared.expr.Expr.{Expr}

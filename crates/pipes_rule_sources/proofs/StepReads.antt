@@ -1,5 +1,5 @@
 -- What a step makes, and a derivation, reads the sources that the plan before it reads.
-use Rattle.std.proofs.Common.{◌≡◌, ℕ, Bool, true, false, ◌||◌, cond, List, [], ◌∷◌, refl, sym, ap}
+use Rattle.std.proofs.Common.{◌≡◌, ℕ, Bool, true, false, ◌||◌, cond, List, [], ◌∷◌, refl, ap}
 use Rattle.std.proofs.Common.{◌∙◌, subst, Option, Some, None, Result, Ok, Err}
 use Rattle.std.specs.Prelude.{nat_eq}
 use Rattle.pipes_tuple.specs.declared.value.Kind.{Kind}
@@ -21,7 +21,7 @@ use Rattle.pipes_rules.specs.declared.step.StepRefusal.TheVariants.{NoSuchPlace,
 use Rattle.pipes_rules.specs.Rewriting.{rule_forward, back_plain, back_with_expr, back_with_lists}
 use Rattle.pipes_rules.specs.Rewriting.{rule_back}
 use Rattle.pipes_rules.specs.Stepping.{without_arg, step_form, or_refuse, wrapped, at_only, at_side}
-use Rattle.pipes_rules.specs.Stepping.{with_child, rewritten_at, stepped, Applies, Derives}
+use Rattle.pipes_rules.specs.Stepping.{with_child, rewritten_at, Applies, Derives}
 use Rattle.pipes_rule_sources.specs.Reads.{reads, SameSources}
 use Rattle.pipes_rule_sources.proofs.NodeReads.{Gives, gives_none, gives_either, leaves_read}
 use Rattle.pipes_rule_sources.proofs.FormReads as form
@@ -112,89 +112,89 @@ module _ (s : ℕ) where
   -- ---- at the end of a path
 
   -- the rewritten plan, if there is one, reads the source where this says so
-  abbrev Leaves : Bool → Result Plan StepRefusal → Type 0
-  Leaves b r = (new : Plan) → r ≡ Ok new → b ≡ reads s new
+  abbrev Yields : Bool → Result Plan StepRefusal → Type 0
+  Yields b r = (new : Plan) → r ≡ Ok new → b ≡ reads s new
 
-  leaves_form : (b : Bool) (made : Option Plan) → Gives s b made
-      → Leaves b (or_refuse NoMatch made)
-  leaves_form b (Some plan) h new e = h new cc
-  leaves_form b None h new e = cc
+  yields_form : (b : Bool) (made : Option Plan) → Gives s b made
+      → Yields b (or_refuse NoMatch made)
+  yields_form b (Some plan) h new e = h new cc
+  yields_form b None h new e = cc
 
-  leaves_either : (b t : Bool) (l r : Result Plan StepRefusal) → Leaves b l → Leaves b r
-      → Leaves b (cond t l r)
-  leaves_either b true l r h k = h
-  leaves_either b false l r h k = k
+  yields_either : (b t : Bool) (l r : Result Plan StepRefusal) → Yields b l → Yields b r
+      → Yields b (cond t l r)
+  yields_either b true l r h k = h
+  yields_either b false l r h k = k
 
-  leaves_no : (b : Bool) → Leaves b (Err NoSuchPlace)
-  leaves_no b new e = cc
+  yields_no : (b : Bool) → Yields b (Err NoSuchPlace)
+  yields_no b new e = cc
 
-  leaves_only : (i : ℕ) (b : Bool) (r : Result Plan StepRefusal) → Leaves b r
-      → Leaves b (at_only i r)
-  leaves_only i b r h = leaves_either b (nat_eq i 0) _ _ h (leaves_no b)
+  yields_only : (i : ℕ) (b : Bool) (r : Result Plan StepRefusal) → Yields b r
+      → Yields b (at_only i r)
+  yields_only i b r h = yields_either b (nat_eq i 0) _ _ h (yields_no b)
 
-  leaves_side : (i : ℕ) (b : Bool) (l r : Result Plan StepRefusal) → Leaves b l → Leaves b r
-      → Leaves b (at_side i l r)
-  leaves_side i b l r h k = leaves_either b (nat_eq i 0) _ _ h
-      (leaves_either b (nat_eq i 1) _ _ k (leaves_no b))
+  yields_side : (i : ℕ) (b : Bool) (l r : Result Plan StepRefusal) → Yields b l → Yields b r
+      → Yields b (at_side i l r)
+  yields_side i b l r h k = yields_either b (nat_eq i 0) _ _ h
+      (yields_either b (nat_eq i 1) _ _ k (yields_no b))
 
   -- the child in its place; f says what is read beside it
-  leaves_wrapped : (f : Bool → Bool) (wrap : Plan → Plan) → ((x : Plan) → f (reads s x) ≡ reads s
-      (wrap x)) → (b : Bool) (r : Result Plan StepRefusal) → Leaves b r
-      → Leaves (f b) (wrapped wrap r)
-  leaves_wrapped f wrap like b (Ok x) h new e =
+  yields_wrapped : (f : Bool → Bool) (wrap : Plan → Plan)
+      → ((x : Plan) → f (reads s x) ≡ reads s (wrap x)) → (b : Bool) (r : Result Plan StepRefusal)
+      → Yields b r → Yields (f b) (wrapped wrap r)
+  yields_wrapped f wrap like b (Ok x) h new e =
       let same : wrap x ≡ new = cc in
       ap f (h x refl) ∙ like x ∙ ap (reads s) same
-  leaves_wrapped f wrap like b (Err why) h new e = cc
+  yields_wrapped f wrap like b (Err why) h new e = cc
 
   module _ (g : Plan → Result Plan StepRefusal)
-      (inner : (plan : Plan) → Leaves (reads s plan) (g plan)) (i : ℕ) where
+      (inner : (plan : Plan) → Yields (reads s plan) (g plan)) (i : ℕ) where
     one_child : (node a : Plan) (wrap : Plan → Plan) → reads s a ≡ reads s node
         → ((x : Plan) → reads s x ≡ reads s (wrap x))
-        → Leaves (reads s node) (at_only i (wrapped wrap (g a)))
-    one_child node a wrap is like = subst (λ b. Leaves b (at_only i (wrapped wrap (g a)))) is
-        (leaves_only i _ _ (leaves_wrapped (λ v. v) wrap like _ _ (inner a)))
+        → Yields (reads s node) (at_only i (wrapped wrap (g a)))
+    one_child node a wrap is like = subst (λ b. Yields b (at_only i (wrapped wrap (g a)))) is
+        (yields_only i _ _ (yields_wrapped (λ v. v) wrap like _ _ (inner a)))
 
     two_children : (node a b : Plan) (left right : Plan → Plan)
         → (reads s a || reads s b) ≡ reads s node
         → ((x : Plan) → (reads s x || reads s b) ≡ reads s (left x))
         → ((x : Plan) → (reads s a || reads s x) ≡ reads s (right x))
-        → Leaves (reads s node) (at_side i (wrapped left (g a)) (wrapped right (g b)))
+        → Yields (reads s node) (at_side i (wrapped left (g a)) (wrapped right (g b)))
     two_children node a b left right is like like' =
-        subst (λ v. Leaves v (at_side i (wrapped left (g a)) (wrapped right (g b)))) is
-        (leaves_side i _ _ _
-        (leaves_wrapped (λ v. v || reads s b) left like _ _ (inner a))
-        (leaves_wrapped (λ v. reads s a || v) right like' _ _ (inner b)))
+        subst (λ v. Yields v (at_side i (wrapped left (g a)) (wrapped right (g b)))) is
+        (yields_side i _ _ _
+        (yields_wrapped (λ v. v || reads s b) left like _ _ (inner a))
+        (yields_wrapped (λ v. reads s a || v) right like' _ _ (inner b)))
 
-    layer_leaves : (y : Plan-F Plan) → Leaves (reads s (roll-Plan y)) (with_child i g y)
-    layer_leaves (o.Source n) = leaves_no _
-    layer_leaves (o.Filter p a) = one_child _ a (λ x. Filter p x) (simp (rolls-Filter, leaves_read))
+    layer_yields : (y : Plan-F Plan) → Yields (reads s (roll-Plan y)) (with_child i g y)
+    layer_yields (o.Source n) = yields_no _
+    layer_yields (o.Filter p a) = one_child _ a (λ x. Filter p x) (simp (rolls-Filter, leaves_read))
         (λ x. simp leaves_read)
-    layer_leaves (o.Map es a) = one_child _ a (λ x. Map es x) (simp (rolls-Map, leaves_read))
+    layer_yields (o.Map es a) = one_child _ a (λ x. Map es x) (simp (rolls-Map, leaves_read))
         (λ x. simp leaves_read)
-    layer_leaves (o.Union a b) = two_children _ a b (λ x. Union x b) (λ x. Union a x)
+    layer_yields (o.Union a b) = two_children _ a b (λ x. Union x b) (λ x. Union a x)
         (simp (rolls-Union, leaves_read)) (λ x. simp leaves_read) (λ x. simp leaves_read)
-    layer_leaves (o.Join k c a b) = two_children _ a b (λ x. Join k c x b) (λ x. Join k c a x)
+    layer_yields (o.Join k c a b) = two_children _ a b (λ x. Join k c x b) (λ x. Join k c a x)
         (simp (rolls-Join, leaves_read)) (λ x. simp leaves_read) (λ x. simp leaves_read)
-    layer_leaves (o.Distinct a) = one_child _ a (λ x. Distinct x) (simp (rolls-Distinct, leaves_read))
-        (λ x. simp leaves_read)
-    layer_leaves (o.Group k h a) = one_child _ a (λ x. Group k h x) (simp (rolls-Group, leaves_read))
-        (λ x. simp leaves_read)
-    layer_leaves (o.Minus a b) = two_children _ a b (λ x. Minus x b) (λ x. Minus a x)
+    layer_yields (o.Distinct a) = one_child _ a (λ x. Distinct x)
+        (simp (rolls-Distinct, leaves_read)) (λ x. simp leaves_read)
+    layer_yields (o.Group k h a) = one_child _ a (λ x. Group k h x)
+        (simp (rolls-Group, leaves_read)) (λ x. simp leaves_read)
+    layer_yields (o.Minus a b) = two_children _ a b (λ x. Minus x b) (λ x. Minus a x)
         (simp (rolls-Minus, leaves_read)) (λ x. simp leaves_read) (λ x. simp leaves_read)
 
-  path_leaves : (made : Plan → Option Plan) → Keeps s made → (path : List ℕ) (plan : Plan)
-      → Leaves (reads s plan) (rewritten_at made path plan)
-  path_leaves made h [] plan = leaves_form _ _ (h plan)
-  path_leaves made h (i ∷ path) plan = subst
-      (λ z. Leaves (reads s z) (with_child i (rewritten_at made path) (out-Plan plan)))
-      (roll-out-Plan plan) (layer_leaves (rewritten_at made path) (path_leaves made h path) i
+  path_yields : (made : Plan → Option Plan) → Keeps s made → (path : List ℕ) (plan : Plan)
+      → Yields (reads s plan) (rewritten_at made path plan)
+  path_yields made h [] plan = yields_form _ _ (h plan)
+  path_yields made h (i ∷ path) plan = subst
+      (λ z. Yields (reads s z) (with_child i (rewritten_at made path) (out-Plan plan)))
+      (roll-out-Plan plan) (layer_yields (rewritten_at made path) (path_yields made h path) i
       (out-Plan plan))
 
 -- ---- steps and derivations
 
 pub step_keeps : (ss : List (List Kind)) (step : Step) (old new : Plan) → Applies ss step old new
     → SameSources old new
-step_keeps ss step old new a s = path_leaves s (step_form ss step) (form_keeps s ss step) step.path
+step_keeps ss step old new a s = path_yields s (step_form ss step) (form_keeps s ss step) step.path
     old new a.rewritten
 
 pub steps_keep : (ss : List (List Kind)) (old : Plan) (steps : List Step) (new : Plan)

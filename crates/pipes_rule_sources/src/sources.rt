@@ -1,4 +1,4 @@
-// The sources that a plan reads stay under each step.
+// Each step keeps the sources that a plan reads.
 ghost use Rattle.std.specs.Prelude.{List};
 ghost use Rattle.pipes_tuple.specs.declared.value.Kind.{Kind};
 ghost use Rattle.pipes_plan.specs.declared.plan.Plan.{Plan};
@@ -6,11 +6,11 @@ ghost use Rattle.pipes_rules.specs.declared.step.Step.{Step};
 ghost use Rattle.pipes_rules.specs.Stepping.{Applies, Derives};
 ghost use Rattle.pipes_rule_sources.specs.Reads.{SameSources};
 
-/// A plan that a step makes of another, or a derivation, reads exactly the sources that the other
-/// one reads, whichever rules were applied and where: a law, and nothing to run.
+/// What a step makes of a plan, or a derivation, reads exactly the sources that the plan reads,
+/// whichever rules were applied and where: a law, and nothing to run.
 ///
-/// So in place of a plan at work, whose sources' older rows are gone, the new plan misses no row
-/// that the old one didn't have.
+/// So the new plan may take the old one's place in mid-stream: it wants no row of a source that the
+/// old one didn't read.
 pub fn derivation_keeps_sources()
     ensures step { (schemas : List (List Kind)) (step : Step) (old new : Plan)
         → Applies schemas step old new → SameSources old new }
