@@ -17,8 +17,11 @@ first-none split all (x ∷ es) over =
     let low : x.span.end < split = All-head (λ (e : Elem). e.span.end < split) x es over in
     let none : weigh (touch split x) all ≡ 0 =
     weigh-none (touch split x) (λ y. end-apart split x y (λ e. omega (arith, low, e))) all in
-    omega (arith, none,
-    first-none split all es (All-tail (λ (e : Elem). e.span.end < split) x es over))
+    omega (
+      arith,
+      none,
+      first-none split all es (All-tail (λ (e : Elem). e.span.end < split) x es over),
+    )
 
 second-none : (split : ℕ) (x : Elem) (es : List Elem) → All (λ e. e.span.end < split) es
     → All (λ e. IsInterval e.span.start e.span.end) es → weigh (touch split x) es ≡ 0
@@ -45,5 +48,10 @@ apart-append split earlier sent over all none =
       weigh-append (touch split x) earlier sent,
       second-none split x earlier over all,
     )) sent in
-    omega (arith, none, later, weigh-append f earlier sent,
-    first-none split (earlier ++ sent) earlier over)
+    omega (
+      arith,
+      none,
+      later,
+      weigh-append f earlier sent,
+      first-none split (earlier ++ sent) earlier over,
+    )

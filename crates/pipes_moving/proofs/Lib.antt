@@ -1,0 +1,6 @@
+pub mod Tops
+pub mod Settling
+pub mod Ending
+pub mod Beginning
+pub mod Taking
+pub mod Coalescing

@@ -1,0 +1,16 @@
+use Rattle.pipes_moving.proofs.Ending.{output-ends}
+use Rattle.pipes_moving.proofs.moving.Moving.keeps_up.Goals as goal
+
+pub returns-clause-keeps_none : goal.returns-clause-keeps_none
+returns-clause-keeps_none c = λ schemas before after rows base below from entries s ended.
+    c.keeps_up.ensures.keeps_none schemas before below s.old_got s.old ended
+
+pub returns-clause-ends : goal.returns-clause-ends
+returns-clause-ends c = λ schemas before after rows base below from entries s old_ended
+    fresh_ended.
+    output-ends schemas before after rows base below from entries c.args.self.now s
+    c.requires.settled c.held.ensures.merged
+    (c.answers.ensures schemas before below s.old_got s.old)
+    (c.keeps_up.ensures.prompt schemas before below s.old_got s.old)
+    (c.«answers-2».ensures schemas after from s.fresh_got s.fresh)
+    (c.«keeps_up-2».ensures.prompt schemas after from s.fresh_got s.fresh) old_ended fresh_ended
