@@ -1,30 +1,15 @@
 // Texts of derivations.
-use pipes_derivation::{Derivation, print_derivation, read_derivation};
+use crate::sources::{query_over, read_over};
+use pipes_derivation::{Derivation, print_derivation};
 use pipes_query::Query;
-use pipes_text::read_query;
 use pipes_token::{ReadFault, TextRefusal, TextWhy};
 use std::alloc::Global;
-use std::process::Abort;
 use std::test::Fail;
 
-const QUERY: &str = "source a from \"a.csv\" (i int, j int) window time 1\n\
-    source b from \"b.csv\" (k int, l int) window time 1\n\
-    plan a";
-
-fn query(alloc: Global) -> Result<Query, Fail> {
-    match read_query(alloc, QUERY.as_bytes()) {
-        Ok(query) => Ok(query),
-        Err(_) => Ok(Err("not read")?),
-    }
-}
-
-// The query, and what is read of the text over its two sources.
+// A query, and what is read of the text over its two sources.
 fn read(alloc: Global, text: &str) -> Result<(Query, Result<Derivation, ReadFault>), Fail> {
-    let query = query(alloc)?;
-    if query.sources.as_slice().is_empty() {
-        return Ok(Err("no source")?);
-    }
-    let derivation = read_derivation(alloc, &query, text.as_bytes());
+    let query = query_over(alloc, "a")?;
+    let derivation = read_over(alloc, &query, text)?;
     Ok((query, derivation))
 }
 
