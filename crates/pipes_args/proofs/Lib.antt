@@ -1,2 +1,2 @@
 pub mod Digits
-pub mod Counts
+pub mod Options

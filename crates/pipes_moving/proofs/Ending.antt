@@ -1,11 +1,10 @@
 -- A change is over: the fresh plan stands alone.
-use Rattle.std.proofs.Common.{◌≡◌, ◌⊎◌, ℕ, ◌+◌, ◌≤◌, ◌<◌, max, true, List, [], ◌∷◌, ◌++◌, length, get_or}
-use Rattle.std.proofs.Common.{slice_get, unwrap_or, refl, sym, ◌∙◌, ap, subst, arith, inl, inr}
+use Rattle.std.proofs.Common.{◌≡◌, ◌⊎◌, ℕ, ◌≤◌, ◌<◌, max, List, [], ◌∷◌, ◌++◌}
+use Rattle.std.proofs.Common.{slice_get, unwrap_or, sym, ◌∙◌, ap, subst, arith, inl, inr}
 use Rattle.std.proofs.Common.{append-nil}
 use Rattle.std.specs.List.{All}
 use Rattle.std.proofs.lemmas.List.Elements.{All-weaker}
-use Rattle.pipes_time.specs.Interval.{horizon, closed}
-use Rattle.pipes_tuple.specs.declared.value.Value.{Value}
+use Rattle.pipes_time.specs.Interval.{closed}
 use Rattle.pipes_tuple.specs.declared.value.Kind.{Kind}
 use Rattle.pipes_tuple.specs.Bag.{SameBag}
 use Rattle.pipes_stream.specs.declared.Elem.{Elem}
@@ -13,36 +12,39 @@ use Rattle.pipes_stream.specs.declared.message.Message.{Message}
 use Rattle.pipes_stream.specs.Progress.{Progress}
 use Rattle.pipes_stream.specs.Snapshot.{snapshot}
 use Rattle.pipes_stream.specs.Lists.{run, start_of_list, Valid, beat, elements, HasEnded}
-use Rattle.pipes_stream.specs.Lawful.{Lists, IsCovered}
+use Rattle.pipes_stream.specs.Lawful.{Lists, IsCovered, floor}
 use Rattle.pipes_stream.specs.Weights.{weigh}
-use Rattle.pipes_stream.proofs.Messages.{beat-ended}
-use Rattle.pipes_coalesce.specs.Tests.{ends_above, starts_below}
-use Rattle.pipes_coalesce.specs.Stands.{CoalesceStands, IsMerged, held_of}
+use Rattle.pipes_stream.proofs.Messages.{beat-ended, elements-append}
+use Rattle.pipes_stream.proofs.Ports.{floor-below, All-parts}
+use Rattle.pipes_coalesce.specs.Tests.{ends_above}
+use Rattle.pipes_coalesce.specs.Stands.{IsMerged, held_of}
 use Rattle.pipes_coalesce.specs.Merged.{Merged}
 use Rattle.pipes_seam.specs.Seams.{opening_of}
 use Rattle.pipes_seam.proofs.Going.{both-weigh}
-use Rattle.pipes_seam.proofs.Openings.{opened-list-run}
+use Rattle.pipes_seam.proofs.Openings.{opened-list-run, opened-list-elements}
 use Rattle.pipes_seam.proofs.Spans.{ends-none}
 use Rattle.pipes_seam.proofs.Over.{over-held, over-above, over-same}
 use Rattle.pipes_plan.specs.declared.plan.Plan.{Plan}
 use Rattle.pipes_node.proofs.NodeSteps.{get-any}
 use Rattle.pipes_output.specs.declared.entry.Entry.{Entry}
-use Rattle.pipes_semantics.specs.Written.{results, written_snapshot}
+use Rattle.pipes_semantics.specs.Written.{results}
 use Rattle.pipes_box.specs.Shapes.{Shape, shape_of, leaf_count, sources_of, LeafFits}
 use Rattle.pipes_box.specs.Prompt.{lag_of, floors}
 use Rattle.pipes_works.specs.Sources.{AnswersSources, KeepsUpWithSources, AllReached, AllWithin}
 use Rattle.pipes_works.specs.Sources.{AllSourcesEnded, Reads, by_leaf, source_of}
 use Rattle.pipes_works.specs.Standing.{WorksStand}
 use Rattle.pipes_works.specs.declared.works.Works.{Works}
-use Rattle.pipes_works.proofs.Leaves.{sources-count, EachLeaf, each-at, fits-each}
+use Rattle.pipes_works.proofs.Leaves.{sources-count, each-at, fits-each}
 use Rattle.pipes_works.proofs.GivenKinds.{plan-over}
 use Rattle.pipes_standing.specs.declared.standing.Standing.{Standing}
 use Rattle.pipes_standing.specs.Calms.{Rows, Calm}
 use Rattle.pipes_standing.proofs.Calming.{top-ends}
 use Rattle.pipes_standing.proofs.Alike.{alike-on}
 use Rattle.pipes_moving.specs.declared.moving.Moving.{Moving}
-use Rattle.pipes_moving.specs.Moves.{IsMoving, IsPassed, AllStartFrom, split_of, first_of}
+use Rattle.pipes_moving.specs.Moves.{IsMoving, IsPassed, lag_between, AllStartFrom, split_of}
+use Rattle.pipes_moving.specs.Moves.{first_of}
 use Rattle.pipes_moving.specs.Steps.{IsSettled}
+use Rattle.pipes_moving.proofs.Ahead.{floors-less, waits-none, top-covered}
 use Rattle.pipes_moving.proofs.Tops.{rest_from, rest-covers, rest-floors}
 
 -- the list of a source that a plan reads is valid
@@ -117,6 +119,44 @@ module _ (schemas : List (List Kind)) (before after : Plan) (rows : Rows) (base 
       (subst HasEnded (sym news-all) (fresh_keeps.ends fresh_ended)) in
       let full : beat s.sent ≡ closed = beat-ended s.sent merged.valid both.0 in
       omega (arith, full, s.beat_is, s.written.bounded)
+
+  -- it is kept back by no more than the elements that reach there
+  pub output-far : (h : ℕ) (es : List Elem) → AllReached schemas before below h
+      → AllReached schemas after from h → AllWithin schemas before below es
+      → AllWithin schemas after from es
+      → floors (lag_between schemas before after) h es ≤ m.output.beat
+  output-far h es old_reached fresh_reached old_within fresh_within =
+      let a : ℕ = lag_of (shape_of schemas before) in
+      let b : ℕ = lag_of (shape_of schemas after) in
+      let x : ℕ = floors (max a b) h es in
+      let y : ℕ = floor x es in
+      let less : y ≤ x = floor-below x es in
+      let in_old : x ≤ beat s.olds = omega (
+        arith,
+        floors-less a (max a b) h es (omega arith),
+        old_keeps.above h es old_reached old_within,
+        ap (λ (p : Progress). p.beat) olds-run,
+      ) in
+      let in_fresh : x ≤ beat s.news = omega (
+        arith,
+        floors-less b (max a b) h es (omega arith),
+        fresh_keeps.above h es fresh_reached fresh_within,
+        ap beat news-all,
+      ) in
+      let covered : All (IsCovered es) (elements s.old_got) =
+      top-covered schemas before below es (elements s.old_got) old_within old_answers.spans in
+      let parts : elements s.old_got ≡ elements s.begun ++ elements s.since =
+      ap elements s.old_got_is ∙ elements-append s.begun s.since in
+      let since : All (IsCovered es) (elements s.since) =
+      (All-parts (IsCovered es) (elements s.begun) (elements s.since)
+      (subst (All (IsCovered es)) parts covered)).1 in
+      let same : elements s.olds ≡ elements s.since =
+      ap elements olds-all ∙ opened-list-elements s.begun s.since old-valid in
+      let far : y ≤ beat s.sent = merged.beat_from y (omega (arith, less, in_old))
+      (omega (arith, less, in_fresh))
+      (λ low. waits-none (split_of m) x es (elements s.olds) (omega (arith, low, in_fresh))
+      (subst (All (IsCovered es)) (sym same) since)) in
+      omega (arith, far, s.beat_is)
 
   module _ (p : IsPassed m schemas before after below from) where
     reaches : first_of m ≤ beat s.news

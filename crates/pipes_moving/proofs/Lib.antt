@@ -1,4 +1,5 @@
 pub mod Tops
+pub mod Ahead
 pub mod Settling
 pub mod Ending
 pub mod Beginning

@@ -1,24 +1,25 @@
 -- A plan is replaced: two plans are at work at once, and one list of entries is written.
-use Rattle.std.specs.Prelude.{◌≡◌, ◌⊎◌, ℕ, ◌≤◌, ◌<◌, ◌+◌, max, Bool, true, false, List, [], ◌∷◌, ◌++◌}
+use Rattle.std.specs.Prelude.{◌≡◌, ◌⊎◌, ℕ, suc, ◌≤◌, ◌<◌, ◌+◌, max, List, []}
+use Rattle.std.specs.Prelude.{◌++◌}
 use Rattle.std.specs.Prelude.{slice_get, unwrap_or, vec_len, vec_capacity}
 use Rattle.std.specs.List.{All}
 use Rattle.pipes_time.specs.Interval.{horizon, closed}
-use Rattle.pipes_tuple.specs.declared.value.Value.{Value}
 use Rattle.pipes_tuple.specs.declared.value.Kind.{Kind}
 use Rattle.pipes_tuple.specs.Bag.{SameBag}
 use Rattle.pipes_stream.specs.declared.message.Message.{Message}
-use Rattle.pipes_stream.specs.declared.message.Message.TheVariants as message
 use Rattle.pipes_stream.specs.Snapshot.{snapshot}
-use Rattle.pipes_stream.specs.Lists.{run, start_of_list, beat, elements}
+use Rattle.pipes_stream.specs.Lists.{beat, elements}
 use Rattle.pipes_stream.specs.Lawful.{Lists}
-use Rattle.pipes_coalesce.specs.Stands.{CoalesceStands, EndsBy, StartsFromSplit}
+use Rattle.pipes_coalesce.specs.Stands.{CoalesceStands}
 use Rattle.pipes_seam.specs.Seams.{opening_of}
 use Rattle.pipes_plan.specs.declared.plan.Plan.{Plan}
 use Rattle.pipes_plan.specs.PlanKinds.{IsTyped}
 use Rattle.pipes_output.specs.declared.entry.Entry.{Entry}
 use Rattle.pipes_semantics.specs.Written.{results, written_snapshot}
+use Rattle.pipes_box.specs.Shapes.{shape_of}
+use Rattle.pipes_box.specs.Prompt.{lag_of}
 use Rattle.pipes_works.specs.Sources.{Reads, AllReached, AllSourcesEnded}
-use Rattle.pipes_works.specs.Standing.{WorksStand, IsWhole, MayCome}
+use Rattle.pipes_works.specs.Standing.{WorksStand, IsWhole}
 use Rattle.pipes_written.specs.Written.{IsWritten}
 use Rattle.pipes_standing.specs.Calms.{Rows, AnswerAlike, AllEndBy, answer_of, kinds_of}
 use Rattle.pipes_moving.specs.declared.moving.Moving.{Moving}
@@ -96,7 +97,12 @@ pub record IsMoving (m : Moving) (schemas : List (List Kind)) (before after : Pl
   pub results_are : results entries ≡ results earlier ++ elements sent
   pub beat_is : m.output.beat ≡ max (first_of m) (beat sent)
 
--- ---- how it ends
+-- ---- how far it comes, and how it ends
+
+-- by how many turns elements may keep the output back: one more than in either plan
+abbrev pub lag_between : List (List Kind) → Plan → Plan → ℕ
+lag_between schemas before after =
+    suc (max (lag_of (shape_of schemas before)) (lag_of (shape_of schemas after)))
 
 -- The old plan may be told to be idle once the inputs have come to the split; and the change to be
 -- over once the output is above it too, or all has ended.

@@ -16,16 +16,19 @@ ghost use Rattle.pipes_semantics.specs.Written.{results};
 ghost use Rattle.pipes_semantics.specs.Right.{Final, Right};
 ghost use Rattle.pipes_told.specs.Coalesced.{CoalescedAt};
 ghost use Rattle.pipes_box.specs.Boxes.{IsStill, all_held};
-ghost use Rattle.pipes_works.specs.Sources.{AllSourcesEnded};
+ghost use Rattle.pipes_box.specs.Prompt.{floors};
+ghost use Rattle.pipes_works.specs.Sources.{AllSourcesEnded, AllReached, AllWithin};
+ghost use Rattle.pipes_stream.specs.declared.Elem.{Elem as Lasting};
 ghost use Rattle.pipes_works.specs.Standing.{IsWhole, source_count};
-ghost use Rattle.pipes_written.specs.Made.{last_entry, drained, HasRoom};
+ghost use Rattle.pipes_written.specs.Made.{last_entry, drained, HasRoom, TellsMove};
 ghost use Rattle.pipes_standing.specs.Calms.{Calm, Rows, AnswerAlike};
 ghost use Rattle.pipes_stream.specs.declared.message.Message.TheVariants as variant;
 ghost use Rattle.pipes_seam.specs.Seams.{end_of};
 
 use crate::next::Next;
-use crate::sides::{ends_by, starts_from};
+use crate::sides::{beat_below, beat_from, ends_by, starts_from};
 use pipes_edge::Gate;
+use pipes_output::Entry;
 use pipes_seam::Seam;
 use pipes_standing::{Parts, Standing};
 use pipes_stream::Message;
@@ -50,10 +53,10 @@ pub struct Moving {
 
 impl Moving {
     ghost use Rattle.pipes_moving.specs.Moves.{IsMoving, IsReady, IsWholeMoving, IsPassed};
-    ghost use Rattle.pipes_moving.specs.Moves.{split_of, first_of, IsOverAt};
+    ghost use Rattle.pipes_moving.specs.Moves.{split_of, first_of, IsOverAt, lag_between};
     ghost use Rattle.pipes_moving.specs.Steps.{MakesEntries, IsSettled, TakesOld, TakesFresh};
     ghost use Rattle.pipes_moving.specs.Steps.{WorksBothOff, Settles, nothing_more, Begins};
-    ghost use Rattle.pipes_moving.specs.Steps.{MayComeOld, MayComeFresh, CountsStay};
+    ghost use Rattle.pipes_moving.specs.Steps.{MayComeOld, MayComeFresh, CountsStay, TakesBeat, Tells};
 
     /// The plan that is ready begins to take the place of the one at work, at this split. No memory
     /// is taken.
@@ -201,6 +204,33 @@ impl Moving {
         Ok(())
     }
 
+    /// Tells both plans the heartbeat of a source: the old one up to the split, where it is the
+    /// end; the fresh one from the split on, and the end once the source has ended. Out of memory
+    /// as in `take_old`.
+    pub fn take_beat<R: Threads + Sync, G: Gate>(
+        &mut self,
+        rt: &R,
+        gate: &G,
+        source: u32,
+        at: u64,
+        ended: bool,
+    ) -> Result<(), Memory>
+        requires whole { IsWholeMoving self.old }
+        requires in_range { source < source_count self.old.old_works }
+        requires in_range_fresh { source < source_count self.old.fresh_works }
+        ensures whole { IsWholeMoving self.new }
+        ensures count { CountsStay self.old self.new }
+        ensures takes { OnOk result (TakesBeat self.old self.new source at ended) }
+        ensures entries { OnErr result (MakesEntries self.old self.new []) }
+        ensures memory { OnErr result (self.new.failed ≡ true) }
+        ensures stays_failed { OnTrue self.old.failed (IsErr result) }
+    {
+        let split = self.seam.split();
+        self.take_old(rt, gate, source, beat_below(split, at))?;
+        self.take_fresh(rt, gate, source, beat_from(split, at, ended))?;
+        Ok(())
+    }
+
     // Works both plans off.
     fn work_both_off<R: Threads + Sync, G: Gate>(&mut self, rt: &R, gate: &G) -> Result<(), Memory>
         requires { IsWholeMoving self.old }
@@ -343,8 +373,9 @@ impl Moving {
         self.output.tells();
     }
 
-    /// Once settled, after the end of all that the old plan is given it keeps no element; and after
-    /// the end of all sources the output has ended: a law, and nothing to run.
+    /// Once settled, after the end of all that the old plan is given it keeps no element. The
+    /// output is kept back by no more than the elements that reach as far as the sources have come,
+    /// and after the end of all sources it has ended. A law, and nothing to run.
     pub fn keeps_up(&self)
         requires whole { IsWholeMoving self.now }
         requires settled { IsSettled self.now }
@@ -352,6 +383,13 @@ impl Moving {
             (base : ℕ) (below from : Lists) (entries : List Line)
             → IsMoving self.now schemas before after rows base below from entries
             → AllSourcesEnded schemas before below → all_held self.now.old_works.plan_box ≡ 0 }
+        ensures far { (schemas : List (List Kind)) (before after : Tree) (rows : Rows)
+            (base : ℕ) (below from : Lists) (entries : List Line)
+            → IsMoving self.now schemas before after rows base below from entries
+            → (h : ℕ) (es : List Lasting) → AllReached schemas before below h
+            → AllReached schemas after from h → AllWithin schemas before below es
+            → AllWithin schemas after from es
+            → floors (lag_between schemas before after) h es ≤ self.now.output.beat }
         ensures ends { (schemas : List (List Kind)) (before after : Tree) (rows : Rows)
             (base : ℕ) (below from : Lists) (entries : List Line)
             → IsMoving self.now schemas before after rows base below from entries
@@ -401,6 +439,26 @@ impl Moving {
             output: self.output,
             failed: self.failed,
         })
+    }
+
+    /// Makes room for so many more entries.
+    pub fn reserve(&mut self, room: usize) -> Result<(), Memory>
+        ensures tells { Tells self.old self.new [] }
+        ensures room { OnOk result (HasRoom self.new.output room) }
+    {
+        self.output.reserve(room)?;
+        Ok(())
+    }
+
+    /// Tells of a migration: the reply to what was asked for, that it is idle, or that it is over.
+    /// There is room for it.
+    pub fn tell(&mut self, entry: Entry)
+        requires room { HasRoom self.old.output 1 }
+        requires of_move { TellsMove entry }
+        ensures tells { Tells self.old self.new (entry ∷ []) }
+        ensures left { (n : ℕ) → HasRoom self.old.output (n + 1) → HasRoom self.new.output n }
+    {
+        self.output.tell(entry);
     }
 
     /// The entries that were made and not taken yet.

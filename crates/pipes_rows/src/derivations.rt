@@ -4,6 +4,7 @@ use pipes_edge::{MemFiles, MemSink};
 use std::alloc::Global;
 use std::process::Abort;
 use std::test::Fail;
+use std::thread::Threads;
 
 const DERIVE: &[&str] = &["derive", "q.txt", "d.txt"];
 
@@ -32,7 +33,7 @@ fn files(alloc: Global, query: &str, derivation: &str) -> Result<MemFiles, Fail>
 }
 
 // Derives, and compares the status, the output and the line of the fault.
-fn expect_derived<R: AllocGlobal + Abort>(
+fn expect_derived<R: AllocGlobal + Abort + Threads + Sync>(
     rt: &R,
     query: &str,
     derivation: &str,

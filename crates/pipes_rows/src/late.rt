@@ -2,9 +2,10 @@
 use crate::program::{CHECK, RUN, expect_rows};
 use std::process::Abort;
 use std::test::Fail;
+use std::thread::Threads;
 
 // Answers the query over the rows at each of these instants.
-fn expect_answers<R: AllocGlobal + Abort>(
+fn expect_answers<R: AllocGlobal + Abort + Threads + Sync>(
     rt: &R,
     query: &str,
     rows: &str,
@@ -77,7 +78,7 @@ fn queries_with_a_slack_or_a_slide(rt: HostRuntime) -> Result<(), Fail> {
     let printed = "source a from \"a.csv\" (v int) slack 2 window time 10 slide 5\n\
         plan a\nkinds int\n";
     expect_rows(&rt, CHECK, query, "", (0, printed, ""))?;
-    expect_rows(&rt, RUN, query, "at,v\n", (9, "", "pipes: unbuilt\n"))?;
+    expect_rows(&rt, RUN, query, "at,v\n", (0, "end\n", ""))?;
     let none = "source a from \"a.csv\" (v int) slack 0 window time 10\nplan a\n";
     expect_rows(&rt, CHECK, none, "", (2, "", "pipes: query 1 37 range\n"))
 }

@@ -11,3 +11,5 @@ mod late;
 mod plans;
 #[cfg(test)]
 mod program;
+#[cfg(test)]
+mod runs;

@@ -2,6 +2,7 @@
 use crate::program::{CHECK, expect_rows};
 use std::process::Abort;
 use std::test::Fail;
+use std::thread::Threads;
 
 const AT: &[&str] = &["at", "q.txt", "0"];
 
@@ -10,7 +11,7 @@ const ONE: &str = "source a from \"a.csv\" (i int, t text, f flag) window time 1
 const ROW: &str = "at,i,t,f\n0,1,a,true\n";
 
 // Checks or answers the plan over the rows.
-fn expect<R: AllocGlobal + Abort>(
+fn expect<R: AllocGlobal + Abort + Threads + Sync>(
     rt: &R,
     list: &[&str],
     sources: &str,
@@ -134,7 +135,11 @@ fn refusals_of_plans(rt: HostRuntime) -> Result<(), Fail> {
 }
 
 // A plan that checks, as it is printed, with the kinds of its result.
-fn expect_checked<R: AllocGlobal + Abort>(rt: &R, plan: &str, kinds: &str) -> Result<(), Fail> {
+fn expect_checked<R: AllocGlobal + Abort + Threads + Sync>(
+    rt: &R,
+    plan: &str,
+    kinds: &str,
+) -> Result<(), Fail> {
     let mut printed = String::from_str(rt.alloc(), KINDS)?;
     printed.push_str("plan ")?;
     printed.push_str(plan)?;

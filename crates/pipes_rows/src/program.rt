@@ -4,6 +4,7 @@ use pipes_run::pipes;
 use std::alloc::Global;
 use std::process::Abort;
 use std::test::Fail;
+use std::thread::Threads;
 
 const QUERY: &str = "source a from \"a.csv\" (v int) window time 3\nplan filter((0 < $0), a)\n";
 
@@ -13,7 +14,7 @@ const WHOLE: &str = "+ 0 3 7\n+ 1 4 8\nend\n";
 
 pub(crate) const RUN: &[&str] = &["run", "q.txt", "s.txt"];
 
-const NORMAL: &[&str] = &["run", "q.txt", "s.txt", "--form", "normal"];
+pub(crate) const NORMAL: &[&str] = &["run", "q.txt", "s.txt", "--form", "normal"];
 
 pub(crate) const CHECK: &[&str] = &["check", "q.txt"];
 
@@ -35,7 +36,7 @@ fn files(alloc: Global, query: &str, rows: &str) -> Result<MemFiles, Fail> {
 }
 
 // Calls with these words, and compares the status, the output and the line of the fault.
-pub(crate) fn expect_call<R: AllocGlobal + Abort>(
+pub(crate) fn expect_call<R: AllocGlobal + Abort + Threads + Sync>(
     rt: &R,
     list: &[&str],
     mut files: MemFiles,
@@ -59,7 +60,7 @@ pub(crate) fn expect_call<R: AllocGlobal + Abort>(
 }
 
 // The same, of a query over one source's rows.
-pub(crate) fn expect_rows<R: AllocGlobal + Abort>(
+pub(crate) fn expect_rows<R: AllocGlobal + Abort + Threads + Sync>(
     rt: &R,
     list: &[&str],
     query: &str,
@@ -187,7 +188,7 @@ fn the_normal_form_before_a_refused_line(rt: HostRuntime) -> Result<(), Fail> {
 
 #[test]
 fn words_that_are_no_command(rt: HostRuntime) -> Result<(), Fail> {
-    let lists: [&[&str]; 9] = [
+    let lists: [&[&str]; 14] = [
         &[],
         &["run", "q.txt"],
         &["derive", "q.txt"],
@@ -197,6 +198,14 @@ fn words_that_are_no_command(rt: HostRuntime) -> Result<(), Fail> {
         &["run", "q.txt", "s.txt", "--form", "text"],
         &["run", "--form", "normal", "q.txt", "s.txt"],
         &["run", "q.txt", "s.txt", "--form"],
+        // An option twice, also with one value.
+        &[
+            "run", "q.txt", "s.txt", "--form", "normal", "--form", "normal",
+        ],
+        &["run", "q.txt", "s.txt", "--workers", "0"],
+        &["run", "q.txt", "s.txt", "--workers", "17"],
+        &["run", "q.txt", "s.txt", "--mode", "both"],
+        &["make", "7", "0"],
     ];
     for list in lists {
         expect_rows(&rt, list, QUERY, ROWS, (1, "", "pipes: words\n"))?;
@@ -236,11 +245,11 @@ fn a_query_is_checked(rt: HostRuntime) -> Result<(), Fail> {
     expect_rows(&rt, CHECK, TEXTS, ROWS, (0, texts, ""))
 }
 
-const JOIN: &str = "source bids from \"bids.csv\" (item int, price int) window time 5\n\
+pub(crate) const JOIN: &str = "source bids from \"bids.csv\" (item int, price int) window time 5\n\
     source asks from \"asks.csv\" (item int, price int) window time 5\n\
     plan join([0=0], true, bids, asks)\n";
 
-fn market(alloc: Global) -> Result<MemFiles, Fail> {
+pub(crate) fn market(alloc: Global) -> Result<MemFiles, Fail> {
     let mut files = MemFiles::new(alloc);
     files.add("q.txt", JOIN.as_bytes())?;
     files.add("s.txt", b"")?;
@@ -276,10 +285,20 @@ fn answers_at_an_instant(rt: HostRuntime) -> Result<(), Fail> {
 fn what_is_not_served_yet(rt: HostRuntime) -> Result<(), Fail> {
     let alloc = rt.alloc();
     let unbuilt = (9, "", "pipes: unbuilt\n");
-    expect_call(&rt, RUN, market(alloc)?, MemSink::new(alloc, 9), unbuilt)?;
     let mut scripted = files(alloc, QUERY, ROWS)?;
     scripted.add("s.txt", b" ")?;
-    expect_call(&rt, RUN, scripted, MemSink::new(alloc, 9), unbuilt)
+    expect_call(&rt, RUN, scripted, MemSink::new(alloc, 9), unbuilt)?;
+    // Before any file is looked for.
+    let lists: [&[&str]; 3] = [
+        &["make", "7", "1000"],
+        &["make", "7", "1000", "--mode", "inline", "--workers", "2"],
+        &["run", "q.txt", "s.txt", "--mode", "threaded"],
+    ];
+    for list in lists {
+        let none = MemFiles::new(alloc);
+        expect_call(&rt, list, none, MemSink::new(alloc, 9), unbuilt)?;
+    }
+    Ok(())
 }
 
 #[test]
@@ -349,6 +368,6 @@ fn a_source_past_its_limit(rt: HostRuntime) -> Result<(), Fail> {
     for _ in 0..4000 {
         rows.push_str(lines.as_str())?;
     }
-    let want = (8, "stop\n", "pipes: limit a 4000002\n");
-    expect_rows(&rt, RUN, QUERY, rows.as_str(), want)
+    let want = (8, "", "pipes: limit a 4000002\n");
+    expect_rows(&rt, &["at", "q.txt", "0"], QUERY, rows.as_str(), want)
 }

@@ -13,11 +13,10 @@ use Rattle.pipes_tuple.specs.declared.value.Value.{Value}
 use Rattle.pipes_tuple.specs.Bag.{SameBag}
 use Rattle.pipes_tuple.specs.Order.{tuple_cmp}
 use Rattle.pipes_window.specs.declared.item.Item.{Item}
-use Rattle.pipes_args.specs.Command.{At}
+use Rattle.pipes_run.specs.Errand.{At}
 use Rattle.pipes_query.specs.declared.query.Query.{Query}
 use Rattle.pipes_error.specs.Fault.{Fault, Words, QueryText, QueryType, DerivationText, Unbuilt}
-use Rattle.pipes_error.specs.Fault.{Missing, ReadFile}
-use Rattle.pipes_error.specs.Fault.{ReadSource, Row, Limit, Write, Memory}
+use Rattle.pipes_error.specs.Fault.{Missing, ReadFile, ReadSource, Row, Limit, Write, Memory}
 use Rattle.pipes_semantics.specs.Answer.{answer}
 use Rattle.pipes_time.specs.Results.{◌>>=◌}
 use Rattle.pipes_answer.specs.Whole.{whole_items}
@@ -84,7 +83,7 @@ not_words Write h e = cc
 not_words Memory h e = cc
 
 cause_of : (name : List ℕ) (t : ℕ) (before now : FaultCounts) (fault : Fault) → IsOfReading fault
-    → HasAnswerCause before.files now.files fault → HasCallCause (Some (At name t)) before now
+    → HasAnswerCause before.files now.files fault → HasCallCause (Ok (At name t)) before now
     (Some fault)
 cause_of name t before now (ReadFile file) of cause = (cause, tt)
 cause_of name t before now Words of cause = tt

@@ -7,7 +7,7 @@ use Rattle.pipes_edge.specs.Causes.{Rose}
 use Rattle.pipes_buffer.specs.Pieces.{AppendsPrefix}
 use Rattle.pipes_buffer.specs.declared.IoFault.{IoFault}
 use Rattle.pipes_buffer.specs.declared.IoFault.TheVariants as io
-use Rattle.pipes_args.specs.Command.{Check}
+use Rattle.pipes_run.specs.Errand.{Check}
 use Rattle.pipes_tuple.specs.declared.value.Kind.{Kind}
 use Rattle.pipes_plan.specs.PlanKinds.{plan_kinds}
 use Rattle.pipes_query.specs.declared.query.Query.{Query}

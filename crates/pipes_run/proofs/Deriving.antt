@@ -11,7 +11,7 @@ use Rattle.pipes_buffer.specs.declared.IoFault.{IoFault}
 use Rattle.pipes_buffer.specs.declared.IoFault.TheVariants as io
 use Rattle.pipes_token.specs.declared.refusal.TextRefusal.{TextRefusal}
 use Rattle.pipes_reader.specs.Texts.{too_long, tokens}
-use Rattle.pipes_args.specs.Command.{Derive}
+use Rattle.pipes_run.specs.Errand.{Derive}
 use Rattle.pipes_query.specs.declared.query.Query.{Query}
 use Rattle.pipes_derivation.specs.declared.derivation.Derivation.{Derivation}
 use Rattle.pipes_derivation.specs.Texts.{IsFileOfDerivation, IsRefusedDerivation}
@@ -90,7 +90,7 @@ module _ (name file : List ℕ) (query : Query) (known : Option Names) (before n
         → ((files : Names) (other : Derivation) → known ≡ Some files
         → IsDerivationFile query file (files file) (Ok other) → d ≡ other)
         → Appends first last wrote → (fault ≡ Some Words → ⊥)
-        → HasCallCause (Some (Derive name file)) before now fault → WritesNothing fault wrote
+        → HasCallCause (Ok (Derive name file)) before now fault → WritesNothing fault wrote
         → Does (DeriveBy query d) fault wrote
         → RanAfter (Derive name file) query known before now first last fault
     after_derived d first last fault wrote holds only appended served cause quiet does = record {
@@ -156,7 +156,7 @@ module _ (name file : List ℕ) (query : Query) (known : Option Names) (before n
 
     cause_of : (fault : Fault) → IsOfDerivation fault
         → IsReadOf file before.files now.files fault
-        → HasCallCause (Some (Derive name file)) before now (Some fault)
+        → HasCallCause (Ok (Derive name file)) before now (Some fault)
     cause_of (ReadFile other) of cause =
         (subst (λ (f : List ℕ). Rose (before.files f) (now.files f)) (sym cause.0) cause.1, tt)
     cause_of Words of cause = tt

@@ -4,10 +4,12 @@ pub mod Prefixes
 pub mod Nothing
 pub mod Composing
 pub mod Answering
+pub mod Retiring
 pub mod Running
+pub mod Over
 pub mod Declared
 pub mod Scripts
-pub mod Sources
+pub mod Finding
 pub mod Checking
 pub mod Calls
 pub mod Deriving

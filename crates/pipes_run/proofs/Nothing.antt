@@ -7,12 +7,13 @@ use Rattle.pipes_error.specs.Fault.{Missing, ReadFile}
 use Rattle.pipes_error.specs.Fault.{ReadSource, Row, Limit, Write, Memory}
 use Rattle.pipes_run.proofs.Prefixes.{prefix_nothing}
 use Rattle.pipes_run.specs.Asked.{Job, RunOver, AnswerAt, PrintOf, DeriveBy}
-use Rattle.pipes_run.specs.Outcome.{ArePrefixes, Does}
+use Rattle.pipes_inline.specs.Ran.{ArePrefixes}
+use Rattle.pipes_run.specs.Outcome.{Does}
 use Rattle.pipes_run.specs.Seen.{IsFree}
 
-nothing_taken : (items : List Items) → (taken : List (List Item)) × ArePrefixes items taken
+nothing_taken : (arrivals : List Items) → (taken : List (List Item)) × ArePrefixes arrivals taken
 nothing_taken [] = ([], tt)
-nothing_taken (i ∷ is) = let rest = nothing_taken is in ([] ∷ rest.0, ((0, refl), rest.1))
+nothing_taken (a ∷ others) = let rest = nothing_taken others in ([] ∷ rest.0, ((0, refl), rest.1))
 
 pub does_nothing : (job : Job) (fault : Fault) → IsFree fault → Does job (Some fault) []
 does_nothing (RunOver form query items) Memory h = let t = nothing_taken items in

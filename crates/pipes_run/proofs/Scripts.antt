@@ -1,19 +1,16 @@
 -- A run, from what its script and its sources gave.
 use Rattle.std.proofs.Common.{◌≡◌, ◌⊎◌, ℕ, ◌≤◌, List, [], true, false, Option, Some, None, Result}
-use Rattle.std.proofs.Common.{Ok, Err}
-use Rattle.std.proofs.Common.{refl, sym, subst, ◌∙◌, inl, inr}
+use Rattle.std.proofs.Common.{Ok, Err, refl, sym, subst, ◌∙◌, inl, inr}
 use Rattle.std.proofs.KnownBytes.{Appends-nil}
 use Rattle.pipes_edge.specs.Outside.{Names, NoneFalls}
 use Rattle.pipes_edge.specs.Causes.{Rose}
 use Rattle.pipes_output.specs.declared.form.Form.{Form}
-use Rattle.pipes_args.specs.Command.{Run}
+use Rattle.pipes_run.specs.Errand.{Run}
 use Rattle.pipes_query.specs.declared.query.Query.{Query}
 use Rattle.pipes_error.specs.Fault.{Fault, Words, QueryText, QueryType, DerivationText, Unbuilt}
-use Rattle.pipes_error.specs.Fault.{Missing, ReadFile}
-use Rattle.pipes_error.specs.Fault.{ReadSource, Row, Limit, Write, Memory}
-use Rattle.pipes_single.specs.Served.{is_served}
+use Rattle.pipes_error.specs.Fault.{Missing, ReadFile, ReadSource, Row, Limit, Write, Memory}
 use Rattle.pipes_time.specs.Results.{◌>>=◌}
-use Rattle.pipes_run.specs.Asked.{Job, RunOver, items_in, run_job, is_empty_script}
+use Rattle.pipes_run.specs.Asked.{Job, RunOver, arrivals_in, run_job, is_empty_script}
 use Rattle.pipes_run.specs.Outcome.{FaultCounts, DoesAsked, HasCallCause, RanAfter}
 use Rattle.pipes_run.specs.Running.{RanOver, HasCauseOver, IsOfScript, IsOfRun}
 use Rattle.pipes_run.specs.Seen.{IsFree, IsReadOf}
@@ -22,11 +19,10 @@ use Rattle.pipes_run.proofs.Composing.{quiet_of, after_by}
 use Rattle.pipes_run.proofs.Running.{free_asked}
 
 asked_by : (name script : List ℕ) (form : Form) (files : Names) (query : Query)
-    (given : Result (Unit {0}) Fault) → is_served query ≡ true
-    → is_empty_script files script ≡ given
-    → run_job script form files query ≡ (given >>= λ one. items_in files query.sources
-    >>= λ items. Ok (RunOver form query items))
-asked_by name script form files query given served is = rw (served, is) refl
+    (given : Result (Unit {0}) Fault) → is_empty_script files script ≡ given
+    → run_job script form files query ≡ (given >>= λ one. arrivals_in files query.sources
+    >>= λ arrivals. Ok (RunOver form query arrivals))
+asked_by name script form files query given is = rw is refl
 
 -- ---- the script was refused
 
@@ -46,7 +42,7 @@ not_words Memory h e = cc
 
 script_cause : (name script : List ℕ) (form : Form) (before now : FaultCounts) (fault : Fault)
     → IsOfScript fault → IsReadOf script before.files now.files fault
-    → HasCallCause (Some (Run name script form)) before now (Some fault)
+    → HasCallCause (Ok (Run name script form)) before now (Some fault)
 script_cause name script form before now (ReadFile file) of cause = (
   subst (λ (f : List ℕ). Rose (before.files f) (now.files f)) (sym cause.0) cause.1,
   inr (inl cause.0),
@@ -79,11 +75,11 @@ refused_asked Memory h = refl
 
 pub script_refused : (name script : List ℕ) (form : Form) (query : Query) (known : Option Names)
     (before now : FaultCounts) (written : Option (List ℕ)) (fault : Fault)
-    → is_served query ≡ true → IsOfScript fault → IsReadOf script before.files now.files fault
+    → IsOfScript fault → IsReadOf script before.files now.files fault
     → ((files : Names) → known ≡ Some files → (is_empty_script files script ≡ Err fault)
     ⊎ IsFree fault)
     → RanAfter (Run name script form) query known before now written written (Some fault)
-script_refused name script form query known before now written fault served of cause gives =
+script_refused name script form query known before now written fault of cause gives =
     after_by (Run name script form) query known before now written written (Some fault) []
     (λ files. run_job script form files query) (λ files. refl) (λ files job e. e)
     (Appends-nil written) (not_words fault of)
@@ -93,7 +89,7 @@ script_refused name script form query known before now written fault served of c
     does : (files : Names) → (is_empty_script files script ≡ Err fault) ⊎ IsFree fault
         → DoesAsked (run_job script form files query) (Some fault) []
     does files (inl is) = subst (λ (asked : Result Job Fault). DoesAsked asked (Some fault) [])
-        (sym (asked_by name script form files query (Err fault) served is)) (refused_asked fault of)
+        (sym (asked_by name script form files query (Err fault) is)) (refused_asked fault of)
     does files (inr free) = free_asked (run_job script form files query) fault free
 
 -- ---- the script is empty
@@ -104,7 +100,7 @@ run_not_words fault of e = subst (λ (f : Option Fault). IsOfRun f) e of
 run_cause : (name script : List ℕ) (form : Form) (before mid now : FaultCounts)
     (fault : Option Fault)
     → NoneFalls before.files mid.files → before.searches ≤ mid.searches → before.out ≡ mid.out
-    → HasCauseOver mid now fault → HasCallCause (Some (Run name script form)) before now fault
+    → HasCauseOver mid now fault → HasCallCause (Ok (Run name script form)) before now fault
 run_cause name script form before mid now (Some (ReadFile file)) later searches same cause = (
   rose_before (before.files file) (mid.files file) (now.files file) (later file) cause.0,
   inr (inr (rose_before before.searches mid.searches now.searches searches cause.1)),
@@ -126,34 +122,20 @@ run_cause name script form before mid now (Some (Limit source line)) later searc
 run_cause name script form before mid now (Some Memory) later searches same cause = tt
 run_cause name script form before mid now None later searches same cause = tt
 
--- the plan isn't served
-pub not_served : (name script : List ℕ) (form : Form) (query : Query) (known : Option Names)
-    (before now : FaultCounts) (written : Option (List ℕ)) → is_served query ≡ false
-    → RanAfter (Run name script form) query known before now written written (Some Unbuilt)
-not_served name script form query known before now written none =
-    after_by (Run name script form) query known before now written written (Some Unbuilt) []
-    (λ files. run_job script form files query) (λ files. refl) (λ files job e. e)
-    (Appends-nil written) (λ e. cc) tt refl
-    (λ files tells. subst (λ (asked : Result Job Fault). DoesAsked asked (Some Unbuilt) [])
-    (sym (refused files)) (refl, refl))
-  where
-    refused : (files : Names) → run_job script form files query ≡ Err Unbuilt
-    refused files = rw none refl
-
 -- the script is empty, and the query was run
 pub script_run : (name script : List ℕ) (form : Form) (query : Query)
     (known mid_known : Option Names) (before mid now : FaultCounts) (first last : Option (List ℕ))
-    (fault : Option Fault) → is_served query ≡ true → mid_known ≡ known
+    (fault : Option Fault) → mid_known ≡ known
     → NoneFalls before.files mid.files → before.searches ≤ mid.searches → before.out ≡ mid.out
     → ((files : Names) → known ≡ Some files → is_empty_script files script ≡ Ok tt)
     → RanOver form query mid_known mid now first last fault
     → RanAfter (Run name script form) query known before now first last fault
-script_run name script form query known mid_known before mid now first last fault served same later
+script_run name script form query known mid_known before mid now first last fault same later
     searches out empty ran =
     after_by (Run name script form) query known before now first last fault ran.wrote
     (λ files. run_job script form files query) (λ files. refl) (λ files job e. e) ran.appended
     (run_not_words fault ran.served)
     (run_cause name script form before mid now fault later searches out ran.cause) ran.quiet
     (λ files tells. subst (λ (asked : Result Job Fault). DoesAsked asked fault ran.wrote)
-    (sym (asked_by name script form files query (Ok tt) served (empty files tells)))
+    (sym (asked_by name script form files query (Ok tt) (empty files tells)))
     (ran.does files (same ∙ tells)))

@@ -7,8 +7,8 @@ use Rattle.pipes_expr.specs.ExprWhys.{first_of}
 use Rattle.pipes_plan.specs.Refusals.{Checks, refusals}
 use Rattle.pipes_window.specs.declared.item.Item.{Item}
 use Rattle.pipes_output.specs.declared.form.Form.{Form}
-use Rattle.pipes_args.specs.Command.{Command, Run, At, Check, Derive}
-use Rattle.pipes_feed.specs.Items.{Items, items_of}
+use Rattle.pipes_run.specs.Errand.{Errand, Run, At, Check, Derive}
+use Rattle.pipes_feed.specs.Items.{Items, arrivals_of}
 use Rattle.pipes_query.specs.declared.query.Query.{Query}
 use Rattle.pipes_query.specs.declared.query.SourceDecl.{SourceDecl}
 use Rattle.pipes_text.specs.Texts.{IsFileOfQuery}
@@ -20,12 +20,11 @@ use Rattle.pipes_semantics.specs.Answer.{schemas_of}
 use Rattle.pipes_error.specs.Fault.{Fault, Words, QueryText, QueryType, DerivationText, Unbuilt}
 use Rattle.pipes_error.specs.Fault.{Missing, ReadFile}
 use Rattle.pipes_error.specs.Fault.{ReadSource, Row, Limit, Write, Memory}
-use Rattle.pipes_single.specs.Served.{is_served}
 use Rattle.pipes_time.specs.Results.{◌>>=◌}
 use Rattle.pipes_answer.specs.Whole.{whole_items}
 
--- What there is to do: a run in a form over the items of its sources; the answer at an instant over
--- all items; the print of a query that checks; or whether a derivation leads from its plan.
+-- What there is to do: a run in a form over the arrivals of its sources; the answer at an instant
+-- over all items; the print of a query that checks; or whether a derivation leads from its plan.
 pub data Job : Type 0 where
   RunOver : Form → Query → List Items → Job
   AnswerAt : Query → List (List Item) → ℕ → Job
@@ -69,20 +68,16 @@ is_empty_script files name = ok_or (files name) (Missing name)
     >>= λ bytes. if length bytes == 0 then Ok
     tt else Err Unbuilt
 
--- a plan that is served
-abbrev pub served : Query → Result (Unit {0}) Fault
-served query = if is_served query then Ok tt else Err Unbuilt
-
--- the items of each source, and how they end
-abbrev pub items_in : Names → List SourceDecl → Result (List Items) Fault
-items_in files [] = Ok []
-items_in files (s ∷ ss) = do
+-- the arrivals of each source, and how they end, or the first source whose file is missing
+abbrev pub arrivals_in : Names → List SourceDecl → Result (List Items) Fault
+arrivals_in files [] = Ok []
+arrivals_in files (s ∷ ss) = do
   bytes ← ok_or (files s.file) (Missing s.file)
-  others ← items_in files ss
-  Ok (items_of s.schema s.slack bytes ∷ others)
+  others ← arrivals_in files ss
+  Ok (arrivals_of s.schema s.slack bytes ∷ others)
 
 -- the name of the query's file
-abbrev pub query_name : Command → List ℕ
+abbrev pub query_name : Errand → List ℕ
 query_name (Run query script form) = query
 query_name (At query time) = query
 query_name (Check query) = query
@@ -91,10 +86,9 @@ query_name (Derive query derivation) = query
 -- what there is to do in a run, or the first fault that the files decide
 abbrev pub run_job : List ℕ → Form → Names → Query → Result Job Fault
 run_job script form files query = do
-  one ← served query
   nothing ← is_empty_script files script
-  items ← items_in files query.sources
-  Ok (RunOver form query items)
+  arrivals ← arrivals_in files query.sources
+  Ok (RunOver form query arrivals)
 
 -- the same of an answer
 abbrev pub answer_job : ℕ → Names → Query → Result Job Fault
@@ -103,7 +97,7 @@ answer_job time files query = do
   Ok (AnswerAt query items time)
 
 -- what there is to do once the query is read, or the first fault that the files decide
-abbrev pub IsJobOf : Command → Names → Query → Result Job Fault → Type 0
+abbrev pub IsJobOf : Errand → Names → Query → Result Job Fault → Type 0
 IsJobOf (Run name script form) files query job = job ≡ run_job script form files query
 IsJobOf (At name time) files query job = job ≡ answer_job time files query
 IsJobOf (Check name) files query job = job ≡ Ok (PrintOf query)
@@ -111,16 +105,16 @@ IsJobOf (Derive name file) files query job = (given : Result Derivation Fault)
     × IsDerivationFile query file (files file) given
     × (job ≡ (given >>= λ d. Ok (DeriveBy query d)))
 
-abbrev pub IsJobAfter : Command → Names → Result Query Fault → Result Job Fault → Type 0
-IsJobAfter command files (Ok query) job = IsJobOf command files query job
-IsJobAfter command files (Err refused) job = job ≡ Err refused
+abbrev pub IsJobAfter : Errand → Names → Result Query Fault → Result Job Fault → Type 0
+IsJobAfter errand files (Ok query) job = IsJobOf errand files query job
+IsJobAfter errand files (Err refused) job = job ≡ Err refused
 
--- what a command asks for: the query comes first
-abbrev pub Asks : Command → Names → Result Job Fault → Type 0
-Asks command files job = (query : Result Query Fault) × IsQueryFile (query_name command)
-    (files (query_name command)) query × IsJobAfter command files query job
+-- what an errand asks for: the query comes first
+abbrev pub Asks : Errand → Names → Result Job Fault → Type 0
+Asks errand files job = (query : Result Query Fault) × IsQueryFile (query_name errand)
+    (files (query_name errand)) query × IsJobAfter errand files query job
 
--- what the words ask for
-abbrev pub AsksWords : Option Command → Names → Result Job Fault → Type 0
-AsksWords None files job = job ≡ Err Words
-AsksWords (Some command) files job = Asks command files job
+-- what the words ask for, by what they are for
+abbrev pub AsksWords : Result Errand Fault → Names → Result Job Fault → Type 0
+AsksWords (Err refused) files job = job ≡ Err refused
+AsksWords (Ok errand) files job = Asks errand files job

@@ -1,3 +1,4 @@
+pub mod Errand
 pub mod Asked
 pub mod Outcome
 pub mod Seen

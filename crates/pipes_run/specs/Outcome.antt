@@ -14,10 +14,11 @@ use Rattle.pipes_tuple.specs.Order.{tuple_cmp}
 use Rattle.pipes_tuple.specs.Kinds.{kind_word}
 use Rattle.pipes_window.specs.declared.item.Item.{Item}
 use Rattle.pipes_output.specs.declared.entry.Entry.TheVariants.{Ended, Stopped}
-use Rattle.pipes_args.specs.Command.{Command, Run, command_of}
+use Rattle.pipes_args.specs.Command.{command_of}
+use Rattle.pipes_run.specs.Errand.{Errand, Run, errand_in}
 use Rattle.pipes_feed.specs.declared.reason.Reason.{Reason}
 use Rattle.pipes_feed.specs.declared.reason.Reason.TheVariants as reason
-use Rattle.pipes_feed.specs.Items.{Items}
+use Rattle.pipes_feed.specs.Items.{Items, in_order}
 use Rattle.pipes_query.specs.declared.query.Query.{Query}
 use Rattle.pipes_query.specs.declared.query.SourceDecl.{SourceDecl}
 use Rattle.pipes_text.specs.Printing.{query_text}
@@ -26,10 +27,10 @@ use Rattle.pipes_derivation.specs.declared.derivation.Derivation.{Derivation}
 use Rattle.pipes_semantics.specs.Answer.{answer, schema_of, schemas_of}
 use Rattle.pipes_semantics.specs.Run.{WritesRun, WritesRunPrefix}
 use Rattle.pipes_answer.specs.Lines.{tuple_lines}
+use Rattle.pipes_inline.specs.Ran.{lists_of, AllEnd, ArePrefixes}
 use Rattle.pipes_error.specs.Fault.{Fault, Words, QueryText, QueryType, DerivationText, Unbuilt}
-use Rattle.pipes_error.specs.Fault.{Missing, ReadFile}
-use Rattle.pipes_error.specs.Fault.{ReadSource, Row, Limit, Write, Memory, status_of, fault_line}
-use Rattle.pipes_error.specs.Fault.{Given, WritesLine}
+use Rattle.pipes_error.specs.Fault.{Missing, ReadFile, ReadSource, Row, Limit, Write, Memory}
+use Rattle.pipes_error.specs.Fault.{status_of, fault_line, Given, WritesLine}
 use Rattle.pipes_run.specs.Asked.{Job, RunOver, AnswerAt, PrintOf, DeriveBy, IsJobOf, AsksWords}
 use Rattle.pipes_run.specs.Asked.{Asks}
 
@@ -44,24 +45,10 @@ kinds_line kinds = codes "kinds" ++ flat_map kind_part kinds ++ codes "\n"
 abbrev pub checked_text : Query → List ℕ
 checked_text query = query_text query ++ kinds_line (schema_of query)
 
--- the items of each source
-abbrev pub lists_of : List Items → List (List Item)
-lists_of items = map (λ i. i.list) items
-
--- each source was read to its end
-abbrev pub AllEnd : List Items → Type 0
-AllEnd items = All (λ i. i.end ≡ reason.AtEnd) items
-
--- of each source a prefix of its items was taken
-abbrev pub ArePrefixes : List Items → List (List Item) → Type 0
-ArePrefixes [] [] = ⊤
-ArePrefixes (i ∷ is) (t ∷ ts) = ((n : ℕ) × (t ≡ take n i.list)) × ArePrefixes is ts
-ArePrefixes _ _ = ⊥
-
--- the items of the source with this name end so, and all of them were taken
+-- the arrivals of the source with this name end so, and all of them were taken
 abbrev pub StoppedAt : List SourceDecl → List Items → List (List Item) → List ℕ → Reason → Type 0
-StoppedAt (s ∷ ss) (i ∷ is) (t ∷ ts) name why = ((s.name ≡ name) × (i.end ≡ why) × (t ≡ i.list))
-    ⊎ StoppedAt ss is ts name why
+StoppedAt (s ∷ ss) (a ∷ others) (t ∷ ts) name why =
+    ((s.name ≡ name) × (a.end ≡ why) × (t ≡ in_order a.list)) ⊎ StoppedAt ss others ts name why
 StoppedAt _ _ _ name why = ⊥
 
 -- one of the sources has its rows in this file
@@ -84,23 +71,23 @@ IsVerdict query d bytes =
 
 -- a job that was done, or stopped by a fault, and what it has written then
 abbrev pub Does : Job → Option Fault → List ℕ → Type 0
-Does (RunOver form query items) None bytes = AllEnd items × WritesRun form query (lists_of items)
-    Ended bytes
-Does (RunOver form query items) (Some (Row source line why)) bytes =
-    (taken : List (List Item)) × ArePrefixes items taken × StoppedAt query.sources items taken
-    source
-    (reason.Row line why) × WritesRun form query taken Stopped bytes
-Does (RunOver form query items) (Some (Limit source line)) bytes =
-    (taken : List (List Item)) × ArePrefixes items taken × StoppedAt query.sources items taken
-    source
-    (reason.Limit line) × WritesRun form query taken Stopped bytes
-Does (RunOver form query items) (Some (ReadSource file)) bytes = (taken : List (List Item))
-    × ArePrefixes items taken × IsFileOf query.sources file × WritesRun form query taken Stopped
+Does (RunOver form query arrivals) None bytes = AllEnd arrivals
+    × WritesRun form query (lists_of arrivals) Ended bytes
+Does (RunOver form query arrivals) (Some (Row source line why)) bytes =
+    (taken : List (List Item)) × ArePrefixes arrivals taken
+    × StoppedAt query.sources arrivals taken source (reason.Row line why)
+    × WritesRun form query taken Stopped bytes
+Does (RunOver form query arrivals) (Some (Limit source line)) bytes =
+    (taken : List (List Item)) × ArePrefixes arrivals taken
+    × StoppedAt query.sources arrivals taken source (reason.Limit line)
+    × WritesRun form query taken Stopped bytes
+Does (RunOver form query arrivals) (Some (ReadSource file)) bytes = (taken : List (List Item))
+    × ArePrefixes arrivals taken × IsFileOf query.sources file × WritesRun form query taken Stopped
     bytes
-Does (RunOver form query items) (Some Write) bytes = (taken : List (List Item))
-    × ArePrefixes items taken × WritesRunPrefix form query taken bytes
-Does (RunOver form query items) (Some Memory) bytes = (taken : List (List Item))
-    × ArePrefixes items taken × WritesRunPrefix form query taken bytes
+Does (RunOver form query arrivals) (Some Write) bytes = (taken : List (List Item))
+    × ArePrefixes arrivals taken × WritesRunPrefix form query taken bytes
+Does (RunOver form query arrivals) (Some Memory) bytes = (taken : List (List Item))
+    × ArePrefixes arrivals taken × WritesRunPrefix form query taken bytes
 Does (AnswerAt query items t) None bytes = WritesAnswer query items t bytes
 Does (AnswerAt query items t) (Some Write) bytes = (whole : List ℕ) × (n : ℕ)
     × WritesAnswer query items t whole × (bytes ≡ take n whole)
@@ -135,8 +122,8 @@ StopsFirst (Some Memory) bytes = bytes ≡ []
 StopsFirst fault bytes = ⊥
 
 -- what fails before a run: the query's file, the script's, or the search for a source's
-abbrev pub IsEarly : Option Command → List ℕ → ℕ → ℕ → Type 0
-IsEarly (Some (Run query script form)) name before now = (name ≡ query) ⊎ (name ≡ script)
+abbrev pub IsEarly : Result Errand Fault → List ℕ → ℕ → ℕ → Type 0
+IsEarly (Ok (Run query script form)) name before now = (name ≡ query) ⊎ (name ≡ script)
     ⊎ Rose before now
 IsEarly _ name before now = ⊤
 
@@ -148,12 +135,12 @@ pub record FaultCounts : Type 0 where
 
 -- a read fails only where the count of its file's name rose, and a write where that of the output
 -- did
-abbrev pub HasCallCause : Option Command → FaultCounts → FaultCounts → Option Fault → Type 0
-HasCallCause command before now (Some (ReadFile name)) = Rose (before.files name) (now.files name)
-    × IsEarly command name before.searches now.searches
-HasCallCause command before now (Some (ReadSource file)) = Rose (before.files file) (now.files file)
-HasCallCause command before now (Some Write) = Rose before.out now.out
-HasCallCause command before now fault = ⊤
+abbrev pub HasCallCause : Result Errand Fault → FaultCounts → FaultCounts → Option Fault → Type 0
+HasCallCause errand before now (Some (ReadFile name)) = Rose (before.files name) (now.files name)
+    × IsEarly errand name before.searches now.searches
+HasCallCause errand before now (Some (ReadSource file)) = Rose (before.files file) (now.files file)
+HasCallCause errand before now (Some Write) = Rose before.out now.out
+HasCallCause errand before now fault = ⊤
 
 -- nothing is written with a fault from before the run, whatever the files tell
 abbrev pub WritesNothing : Option Fault → List ℕ → Type 0
@@ -166,50 +153,53 @@ WritesNothing (Some (Missing name)) bytes = bytes ≡ []
 WritesNothing (Some (ReadFile name)) bytes = bytes ≡ []
 WritesNothing fault bytes = ⊤
 
--- what a command does
-pub record RanCommand (command : Command) (known : Option Names) (before now : FaultCounts)
+-- what an errand does
+pub record RanErrand (errand : Errand) (known : Option Names) (before now : FaultCounts)
     (written_before written_now : Option (List ℕ)) (fault : Option Fault) : Type 0 where
   pub wrote : List ℕ
   pub appended : Appends written_before written_now wrote
   pub served : fault ≡ Some Words → ⊥
-  pub cause : HasCallCause (Some command) before now fault
+  pub cause : HasCallCause (Ok errand) before now fault
   pub quiet : WritesNothing fault wrote
-  -- it was stopped before anything was done, or did what the command and the known files ask for
+  -- it was stopped before anything was done, or did what the errand and the known files ask for
   pub does : (files : Names) → known ≡ Some files → StopsFirst fault wrote
-      ⊎ ((job : Result Job Fault) × Asks command files job × DoesAsked job fault wrote)
+      ⊎ ((job : Result Job Fault) × Asks errand files job × DoesAsked job fault wrote)
   -- and where they ask for a job, it is that job and no other
-  pub only : (files : Names) (job : Job) → known ≡ Some files → Asks command files (Ok job)
+  pub only : (files : Names) (job : Job) → known ≡ Some files → Asks errand files (Ok job)
       → Does job fault wrote
 
--- what a command does once its query is read
-pub record RanAfter (command : Command) (query : Query) (known : Option Names)
+-- what an errand does once its query is read
+pub record RanAfter (errand : Errand) (query : Query) (known : Option Names)
     (before now : FaultCounts)
     (written_before written_now : Option (List ℕ)) (fault : Option Fault) : Type 0 where
   pub wrote : List ℕ
   pub appended : Appends written_before written_now wrote
   pub served : fault ≡ Some Words → ⊥
-  pub cause : HasCallCause (Some command) before now fault
+  pub cause : HasCallCause (Ok errand) before now fault
   pub quiet : WritesNothing fault wrote
   pub does : (files : Names) → known ≡ Some files → StopsFirst fault wrote
-      ⊎ ((job : Result Job Fault) × IsJobOf command files query job × DoesAsked job fault wrote)
+      ⊎ ((job : Result Job Fault) × IsJobOf errand files query job × DoesAsked job fault wrote)
   pub only : (files : Names) (job : Job) → known ≡ Some files
-      → IsJobOf command files query (Ok job) → Does job fault wrote
+      → IsJobOf errand files query (Ok job) → Does job fault wrote
 
 -- what a call does before it tells of its fault
 pub record DidCommand (words : List (List ℕ)) (known : Option Names) (before now : FaultCounts)
     (written_before written_now : Option (List ℕ)) (fault : Option Fault) : Type 0 where
   pub wrote : List ℕ
   pub appended : Appends written_before written_now wrote
+  -- the words are refused exactly where they are no command
   pub refused : (fault ≡ Some Words) ↔ (command_of words ≡ None)
-  pub cause : HasCallCause (command_of words) before now fault
+  -- and before any file, where they are for nothing that is served
+  pub unserved : errand_in words ≡ Err Unbuilt → fault ≡ Some Unbuilt
+  pub cause : HasCallCause (errand_in words) before now fault
   pub quiet : WritesNothing fault wrote
   -- it was stopped before anything was done, or did what the words and the known files ask for
   pub does : (files : Names) → known ≡ Some files → StopsFirst fault wrote
-      ⊎ ((job : Result Job Fault) × AsksWords (command_of words) files job
+      ⊎ ((job : Result Job Fault) × AsksWords (errand_in words) files job
       × DoesAsked job fault wrote)
   -- and where they ask for a job, it is that job and no other
   pub only : (files : Names) (job : Job) → known ≡ Some files
-      → AsksWords (command_of words) files (Ok job) → Does job fault wrote
+      → AsksWords (errand_in words) files (Ok job) → Does job fault wrote
 
 -- the whole call
 pub record Call (words : List (List ℕ)) (known : Option Names) (before now : FaultCounts)
@@ -221,7 +211,7 @@ pub record Call (words : List (List ℕ)) (known : Option Names) (before now : F
 
 -- a job that no source's lines stop
 abbrev pub IsWhole : Job → Type 0
-IsWhole (RunOver form query items) = AllEnd items
+IsWhole (RunOver form query arrivals) = AllEnd arrivals
 IsWhole (AnswerAt query items t) = ⊤
 IsWhole (PrintOf query) = ⊤
 IsWhole (DeriveBy query d) = ⊤
@@ -230,7 +220,7 @@ IsWhole (DeriveBy query d) = ⊤
 -- that of out of memory.
 abbrev pub IsComplete : List (List ℕ) → Option Names → FaultCounts → FaultCounts → ℕ → Type 0
 IsComplete words known before now status =
-    (files : Names) (job : Job) → known ≡ Some files → AsksWords (command_of words) files (Ok job)
+    (files : Names) (job : Job) → known ≡ Some files → AsksWords (errand_in words) files (Ok job)
     → IsWhole job
     → ((name : List ℕ) → ¬ (Rose (before.files name) (now.files name)))
     → ¬ (Rose before.out now.out) → (status ≡ 0) ⊎ (status ≡ 6)

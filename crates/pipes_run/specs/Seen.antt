@@ -11,7 +11,7 @@ use Rattle.pipes_error.specs.Fault.{Fault, QueryText, QueryType, DerivationText,
 use Rattle.pipes_error.specs.Fault.{Write, Memory}
 use Rattle.pipes_error.specs.Fault.{fault_seen}
 use Rattle.pipes_expr.specs.ExprWhys.{first_of}
-use Rattle.pipes_plan.specs.Refusals.{refusals}
+use Rattle.pipes_plan.specs.Refusals.{Checks, refusals}
 use Rattle.pipes_semantics.specs.Answer.{schemas_of}
 use Rattle.pipes_plan.specs.PlanKinds.{plan_kinds}
 use Rattle.pipes_run.specs.declared.query.CheckedQuery.{CheckedQuery}
@@ -70,6 +70,10 @@ GivesNoOther query (Err fault) = IsFree (fault_seen fault)
 -- the query's result has these columns
 abbrev pub HasSchema : CheckedQuery → Type 0
 HasSchema checked = plan_kinds checked.query.plan (schemas_of checked.query) ≡ Some checked.schema
+
+-- the query's plan checks
+abbrev pub HasChecked : CheckedQuery → Type 0
+HasChecked checked = Checks (schemas_of checked.query) checked.query.plan
 
 -- the first refusal of the query's plan, or out of memory
 abbrev pub IsTypeRefusal : Query → Fault → Type 0

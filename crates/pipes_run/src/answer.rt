@@ -2,8 +2,8 @@
 ghost use Rattle.std.specs.Prelude.{◌≡◌, List, ℕ};
 ghost use Rattle.pipes_plan.specs.PlanKinds.{IsTyped};
 ghost use Rattle.pipes_semantics.specs.Answer.{schemas_of};
-ghost use Rattle.pipes_args.specs.Command as command;
-ghost use Rattle.pipes_run.specs.Outcome.{RanAfter, RanCommand};
+ghost use Rattle.pipes_run.specs.Errand as errand;
+ghost use Rattle.pipes_run.specs.Outcome.{RanAfter, RanErrand};
 ghost use Rattle.pipes_run.specs.Seen.{step_fault, io_fault_of};
 
 use crate::query::query_at;
@@ -22,7 +22,7 @@ pub(crate) fn answer_query<'w, F: Files, K: Sink>(
     files: &mut F,
     out: &mut K,
 ) -> Result<(), Fault<'w>>
-    ensures { RanCommand (command.At query.now time) (F.known files.old)
+    ensures { RanErrand (errand.At query.now time) (F.known files.old)
         (record {
           files = F.faults files.old;
           searches = F.failed_searches files.old;
@@ -55,7 +55,7 @@ fn answer_checked<F: Files, K: Sink>(
     out: &mut K,
 ) -> Result<(), Fault<'static>>
     requires typed { IsTyped query.now.plan (schemas_of query.now) }
-    ensures { (name : List ℕ) → RanAfter (command.At name time) query.now (F.known files.old)
+    ensures { (name : List ℕ) → RanAfter (errand.At name time) query.now (F.known files.old)
         (record {
           files = F.faults files.old;
           searches = F.failed_searches files.old;

@@ -3,9 +3,9 @@ ghost use Rattle.std.specs.Prelude.{◌≡◌, ◌≤◌, ◌++◌, OnOk, OnErr,
 ghost use Rattle.std.specs.Io.KnownBytes.{Appends};
 ghost use Rattle.pipes_edge.specs.Causes.{Rose};
 ghost use Rattle.pipes_buffer.specs.Pieces.{AppendsPrefix};
-ghost use Rattle.pipes_args.specs.Command as command;
+ghost use Rattle.pipes_run.specs.Errand as errand;
 ghost use Rattle.pipes_text.specs.Printing.{query_text};
-ghost use Rattle.pipes_run.specs.Outcome.{RanCommand, kinds_line, kind_part};
+ghost use Rattle.pipes_run.specs.Outcome.{RanErrand, kinds_line, kind_part};
 ghost use Rattle.pipes_run.specs.Seen.{step_fault};
 
 use crate::answer::written;
@@ -25,7 +25,7 @@ pub(crate) fn check_query<'w, F: Files, K: Sink>(
     files: &mut F,
     out: &mut K,
 ) -> Result<(), Fault<'w>>
-    ensures { RanCommand (command.Check query.now) (F.known files.old)
+    ensures { RanErrand (errand.Check query.now) (F.known files.old)
         (record {
           files = F.faults files.old;
           searches = F.failed_searches files.old;

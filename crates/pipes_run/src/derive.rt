@@ -7,7 +7,7 @@ ghost use Rattle.pipes_edge.specs.Causes.{Rose};
 ghost use Rattle.pipes_buffer.specs.Pieces.{AppendsPrefix};
 ghost use Rattle.pipes_edge.specs.Outside.{Names, NoneFalls};
 ghost use Rattle.pipes_plan.specs.PlanKinds.{IsTyped};
-ghost use Rattle.pipes_args.specs.Command as command;
+ghost use Rattle.pipes_run.specs.Errand as errand;
 ghost use Rattle.pipes_grammar.specs.Grammar.{HasSourceName};
 ghost use Rattle.pipes_query.specs.Queries.{names_of};
 ghost use Rattle.pipes_derivation.specs.declared.derivation.Derivation.{Derivation as ADerivation};
@@ -15,7 +15,7 @@ ghost use Rattle.pipes_derivation.specs.Texts.{IsFileOfDerivation};
 ghost use Rattle.pipes_semantics.specs.Answer.{schemas_of};
 ghost use Rattle.pipes_error.specs.Fault.{fault_seen};
 ghost use Rattle.pipes_run.specs.Asked.{IsDerivationFile};
-ghost use Rattle.pipes_run.specs.Outcome.{IsVerdict, RanAfter, RanCommand};
+ghost use Rattle.pipes_run.specs.Outcome.{IsVerdict, RanAfter, RanErrand};
 ghost use Rattle.pipes_run.specs.Seen.{step_fault, IsOfDerivation, IsReadOf, GivesDerivation};
 ghost use Rattle.pipes_run.specs.Seen.{GivesThis, IsOfDerivationText};
 
@@ -45,7 +45,7 @@ pub(crate) fn derive_query<'w, F: Files, K: Sink>(
     files: &mut F,
     out: &mut K,
 ) -> Result<(), Fault<'w>>
-    ensures { RanCommand (command.Derive query.now derivation.now) (F.known files.old)
+    ensures { RanErrand (errand.Derive query.now derivation.now) (F.known files.old)
         (record {
           files = F.faults files.old;
           searches = F.failed_searches files.old;
@@ -90,7 +90,7 @@ fn derive_checked<'w, F: Files, K: Sink>(
     requires sources { 1 ≤ length query.now.sources }
     requires named { HasSourceName (names_of query.now.sources) }
     ensures { (query_name : List ℕ)
-        → RanAfter (command.Derive query_name name.now) query.now (F.known files.old)
+        → RanAfter (errand.Derive query_name name.now) query.now (F.known files.old)
         (record {
           files = F.faults files.old;
           searches = F.failed_searches files.old;

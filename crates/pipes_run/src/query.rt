@@ -9,6 +9,7 @@ ghost use Rattle.pipes_error.specs.Fault.{fault_seen};
 ghost use Rattle.pipes_run.specs.Asked.{IsQueryFile, IsQueryText};
 ghost use Rattle.pipes_run.specs.Seen.{IsOfQuery, IsOfText, IsReadOf, IsTypeRefusal, GivesQuery};
 ghost use Rattle.pipes_run.specs.Seen.{GivesNoOther, HasQueryText, HasSchema};
+ghost use Rattle.pipes_run.specs.Seen.{HasChecked};
 
 use crate::file::read_file;
 use pipes_edge::Files;
@@ -46,6 +47,7 @@ pub(crate) fn query_at<'w, F: Files>(
         (fault_seen e)) }
     ensures text { IfOk result (λ checked. HasQueryText checked.query) }
     ensures schema { IfOk result HasSchema }
+    ensures checks { IfOk result HasChecked }
     ensures gives { (named : Names) → F.known files.old ≡ Some named
         → GivesQuery name.now (named name.now) result }
     ensures only { (named : Names) (query : AQuery) → F.known files.old ≡ Some named
@@ -63,6 +65,7 @@ fn query_in(alloc: Global, bytes: &[u8]) -> Result<CheckedQuery, Fault<'static>>
     ensures served { IfErr result (λ e. IsOfText (fault_seen e)) }
     ensures text { IfOk result (λ checked. IsFileOfQuery checked.query bytes.now) }
     ensures schema { IfOk result HasSchema }
+    ensures checks { IfOk result HasChecked }
     ensures gives { GivesQuery [] (Some bytes.now) result }
     ensures only { (query : AQuery) → IsQueryText bytes.now (Ok query) → GivesNoOther query result }
 {
@@ -78,6 +81,7 @@ fn checked(alloc: Global, query: Query) -> Result<CheckedQuery, Fault<'static>>
     ensures same { IfOk result (λ checked. checked.query ≡ query) }
     ensures checks { IfOk result (λ checked. Checks (schemas_of query) query.plan) }
     ensures schema { IfOk result HasSchema }
+    ensures checked { IfOk result HasChecked }
     ensures refused { IfErr result (λ e. IsTypeRefusal query (fault_seen e)) }
 {
     match result_schema(alloc, &query) {

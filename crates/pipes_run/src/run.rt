@@ -4,37 +4,42 @@ ghost use Rattle.std.specs.Prelude.{OnOk, length};
 ghost use Rattle.std.specs.List.{All};
 ghost use Rattle.pipes_edge.specs.Outside.{Names, NoneFalls};
 ghost use Rattle.pipes_plan.specs.PlanKinds.{IsTyped};
+ghost use Rattle.pipes_plan.specs.Refusals.{Checks};
 ghost use Rattle.pipes_window.specs.Windows.{IsWindow};
-ghost use Rattle.pipes_args.specs.Command as command;
+ghost use Rattle.pipes_run.specs.Errand as errand;
 ghost use Rattle.pipes_semantics.specs.Answer.{schemas_of};
 ghost use Rattle.pipes_error.specs.Fault.{fault_seen};
-ghost use Rattle.pipes_single.specs.Served.{is_served};
 ghost use Rattle.pipes_run.specs.Asked as asked;
-ghost use Rattle.pipes_run.specs.Outcome.{RanAfter, RanCommand};
-ghost use Rattle.pipes_run.specs.Running.{RanOver, IsOfScript, GivesScript, run_fault_of};
+ghost use Rattle.pipes_run.specs.Outcome.{RanAfter, RanErrand};
+ghost use Rattle.pipes_run.specs.Running.{RanOver, IsOfScript, GivesScript, IsNamed, HasSource};
 ghost use Rattle.pipes_run.specs.Seen.{step_fault, IsReadOf};
 
 use crate::file::read_file;
 use crate::query::query_at;
+use crate::sources::{find_all, retire_all};
+use pipes_args::Settings;
 use pipes_buffer::BUFFER;
-use pipes_edge::{Files, FindFault, Sink};
-use pipes_error::{Fault, FileName};
-use pipes_output::Form;
-use pipes_query::Query;
-use pipes_single::{RunFault, serves};
-use pipes_tuple::Text;
+use pipes_edge::{Files, Gate, Sink};
+use pipes_error::Fault;
+use pipes_inline::RunFault;
+use pipes_query::{Query, SourceDecl};
 use std::alloc::Global;
+use std::thread::Threads;
 
-/// Runs the query under the script, of the files with these names.
-pub(crate) fn run_query<'w, F: Files, K: Sink>(
+/// Runs the query under the script, of the files with these names, as the settings say.
+pub(crate) fn run_query<'w, R: Threads + Sync, F: Files, K: Sink, G: Gate>(
+    rt: &R,
+    gate: &G,
     alloc: Global,
     query: &'w str,
     script: &'w str,
-    form: Form,
+    settings: Settings,
     files: &mut F,
     out: &mut K,
 ) -> Result<(), Fault<'w>>
-    ensures { RanCommand (command.Run query.now script.now form) (F.known files.old)
+    requires some { 1 ≤ settings.workers }
+    requires most { settings.workers ≤ 16 }
+    ensures { RanErrand (errand.Run query.now script.now settings.form) (F.known files.old)
         (record {
           files = F.faults files.old;
           searches = F.failed_searches files.old;
@@ -54,10 +59,12 @@ pub(crate) fn run_query<'w, F: Files, K: Sink>(
     };
     match query_at(alloc, files, query, buffer.as_mut_slice()) {
         Ok(checked) => run_checked(
+            rt,
+            gate,
             alloc,
             &checked.query,
             script,
-            form,
+            settings,
             buffer.as_mut_slice(),
             files,
             out,
@@ -67,19 +74,24 @@ pub(crate) fn run_query<'w, F: Files, K: Sink>(
 }
 
 // Runs a query that checks under the script of the file with the name.
-fn run_checked<'w, F: Files, K: Sink>(
+fn run_checked<'w, R: Threads + Sync, F: Files, K: Sink, G: Gate>(
+    rt: &R,
+    gate: &G,
     alloc: Global,
     query: &Query,
     script: &'w str,
-    form: Form,
+    settings: Settings,
     buffer: &mut [u8],
     files: &mut F,
     out: &mut K,
 ) -> Result<(), Fault<'w>>
     requires room { 0 < length buffer.old }
     requires typed { IsTyped query.now.plan (schemas_of query.now) }
+    requires checks { Checks (schemas_of query.now) query.now.plan }
     requires windows { All (λ s. IsWindow s.window) query.now.sources }
-    ensures { (name : List ℕ) → RanAfter (command.Run name script.now form) query.now
+    requires some { 1 ≤ settings.workers }
+    requires most { settings.workers ≤ 16 }
+    ensures { (name : List ℕ) → RanAfter (errand.Run name script.now settings.form) query.now
         (F.known files.old)
         (record {
           files = F.faults files.old;
@@ -95,11 +107,8 @@ fn run_checked<'w, F: Files, K: Sink>(
         })
         (K.written out.old) (K.written out.new) (step_fault result) }
 {
-    if !serves(query) {
-        return Err(Fault::Unbuilt);
-    }
     match no_commands(alloc, files, script, buffer) {
-        Ok(()) => run_over(alloc, form, query, files, out),
+        Ok(()) => run_over(rt, gate, alloc, settings, query, files, out),
         Err(fault) => Err(fault),
     }
 }
@@ -132,18 +141,22 @@ fn no_commands<'w, F: Files>(
     }
 }
 
-// Finds the query's source, and runs the query over it.
-fn run_over<F: Files, K: Sink>(
+// Finds the query's sources, and runs the query over them.
+fn run_over<R: Threads + Sync, F: Files, K: Sink, G: Gate>(
+    rt: &R,
+    gate: &G,
     alloc: Global,
-    form: Form,
+    settings: Settings,
     query: &Query,
     files: &mut F,
     out: &mut K,
 ) -> Result<(), Fault<'static>>
-    requires served { is_served query.now ≡ true }
     requires typed { IsTyped query.now.plan (schemas_of query.now) }
+    requires checks { Checks (schemas_of query.now) query.now.plan }
     requires windows { All (λ s. IsWindow s.window) query.now.sources }
-    ensures { RanOver form query.now (F.known files.old)
+    requires some { 1 ≤ settings.workers }
+    requires most { settings.workers ≤ 16 }
+    ensures { RanOver settings.form query.now (F.known files.old)
         (record {
           files = F.faults files.old;
           searches = F.failed_searches files.old;
@@ -158,36 +171,38 @@ fn run_over<F: Files, K: Sink>(
         })
         (K.written out.old) (K.written out.new) (step_fault result) }
 {
-    let source = &query.sources.as_slice()[0];
-    let (Ok(name), Ok(file)) = (source.name.copy(), source.file.copy()) else {
-        return Err(Fault::Memory);
+    let mut srcs = match find_all(alloc, query.sources.as_slice(), files) {
+        Ok(srcs) => srcs,
+        Err(fault) => return Err(fault),
     };
-    let mut src = match files.find_src(file.as_str()) {
-        Ok(src) => src,
-        Err(FindFault::Missing) => return Err(Fault::Missing(FileName::OfSource(file))),
-        Err(FindFault::Failed) => return Err(Fault::ReadFile(FileName::OfSource(file))),
-        Err(FindFault::Memory) => return Err(Fault::Memory),
-    };
-    let ran = pipes_single::run(alloc, form, query, &mut src, out);
-    files.retire(src);
+    let srcs_now = srcs.as_mut_slice();
+    let Settings { form, workers, .. } = settings;
+    let ran = pipes_inline::run(rt, alloc, form, query, workers, gate, srcs_now, out);
+    retire_all(files, srcs);
     match ran {
         Ok(()) => Ok(()),
-        Err(fault) => Err(fault_over(fault, name, file)),
+        Err(fault) => Err(named(query.sources.as_slice(), fault)),
     }
 }
 
-// The fault of a run over the source with this name and file.
-fn fault_over(fault: RunFault, name: Text, file: Text) -> Fault<'static>
-    ensures { fault_seen result ≡ run_fault_of name file fault }
+// The fault of a run over these sources.
+fn named(sources: &[SourceDecl], fault: RunFault) -> Fault<'static>
+    requires { HasSource (length sources.now) fault }
+    ensures { IsNamed sources.now fault (fault_seen result) }
 {
     match fault {
-        RunFault::Row { line, why } => Fault::Row {
-            source: name,
-            line,
-            why,
+        RunFault::Row { source, line, why } => match sources[source as usize].name.copy() {
+            Ok(source) => Fault::Row { source, line, why },
+            Err(_) => Fault::Memory,
         },
-        RunFault::Limit { line } => Fault::Limit { source: name, line },
-        RunFault::Read => Fault::ReadSource(file),
+        RunFault::Limit { source, line } => match sources[source as usize].name.copy() {
+            Ok(source) => Fault::Limit { source, line },
+            Err(_) => Fault::Memory,
+        },
+        RunFault::Read { source } => match sources[source as usize].file.copy() {
+            Ok(file) => Fault::ReadSource(file),
+            Err(_) => Fault::Memory,
+        },
         RunFault::Write => Fault::Write,
         RunFault::Memory => Fault::Memory,
     }

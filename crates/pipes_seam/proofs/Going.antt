@@ -57,7 +57,8 @@ pub record Goes (c d : Seam) (begun since fresh sent more : List Message) : Type
       → (c.merge.split ≤ t → t < beat fresh → SameBag (snapshot (elements fresh) t) rows)
       → SameBag (snapshot (earlier ++ elements (sent ++ more)) t) rows
 
-module _ (c d : Seam) (begun since olds olds_more news news_more fresh sent before now : List Message)
+module _ (c d : Seam)
+    (begun since olds olds_more news news_more fresh sent before now : List Message)
     (joins : Joins c d olds_more news_more before now)
     (stood : CoalesceStands c.merge olds news sent) (merges : IsMerged d.merge)
     (olds_are : olds ++ olds_more ≡ opening_of begun ++ since)

@@ -10,8 +10,9 @@ use Rattle.pipes_coalesce.specs.declared.merge.Coalesce.{Coalesce}
 use Rattle.pipes_seam.specs.declared.seam.Seam.{Seam}
 use Rattle.pipes_seam.specs.Seams.{GivesOld, GivesFresh, Joins, only_elements, told, level_of}
 
-pub joined : (c d : Seam) (mid : Coalesce) (olds fresh none first sent before kept next : List Message)
-    (level : ℕ) → GivesOld c.merge mid olds none first → none ≡ []
+pub joined : (c d : Seam) (mid : Coalesce)
+    (olds fresh none first sent before kept next : List Message) (level : ℕ)
+    → GivesOld c.merge mid olds none first → none ≡ []
     → GivesFresh mid d.merge fresh first sent → d.first ≡ c.first
     → kept ≡ before ++ only_elements sent → level ≡ level_of d
     → next ≡ kept ++ message.Beat level ∷ [] → Joins c d olds fresh before next

@@ -1,5 +1,6 @@
 -- What stands for a list that has come this far.
-use Rattle.std.proofs.Common.{◌≡◌, ℕ, ◌≤◌, Bool, true, false, List, [], ◌∷◌, ◌++◌, refl, sym, ◌∙◌, ap}
+use Rattle.std.proofs.Common.{◌≡◌, ℕ, ◌≤◌, Bool, true, false, List, [], ◌∷◌, ◌++◌, refl, sym, ◌∙◌}
+use Rattle.std.proofs.Common.{ap}
 use Rattle.std.proofs.Common.{subst, arith}
 use Rattle.pipes_time.specs.Interval.{closed}
 use Rattle.pipes_stream.specs.declared.Elem.{Elem}
@@ -48,7 +49,8 @@ module _ (begun since : List Message) (valid : Valid (begun ++ since)) where
   pub opened-list-valid : Valid (opening_of begun ++ since)
   opened-list-valid = valid-append start_of_list (opening_of begun) since
       (opening-valid begun begun-valid)
-      (subst (λ (p : Progress). ValidFrom p since) (sym (opening-run begun begun-valid)) since-valid)
+      (subst (λ (p : Progress). ValidFrom p since) (sym (opening-run begun begun-valid))
+      since-valid)
 
   pub opened-list-run : run start_of_list (opening_of begun ++ since)
       ≡ run start_of_list (begun ++ since)

@@ -1,5 +1,6 @@
 -- What a merge sends, of what is known of both sides.
-use Rattle.std.proofs.Common.{◌≡◌, ℕ, zero, suc, ◌+◌, ◌≤◌, ◌<◌, Bool, true, false, cond, List, [], ◌∷◌}
+use Rattle.std.proofs.Common.{◌≡◌, ℕ, zero, suc, ◌+◌, ◌≤◌, ◌<◌, Bool, true, false, cond, List, []}
+use Rattle.std.proofs.Common.{◌∷◌}
 use Rattle.std.proofs.Common.{◌++◌, map, refl, sym, ◌∙◌, ap, subst, arith, inl, inr}
 use Rattle.std.specs.List.{All}
 use Rattle.std.proofs.lemmas.Bool.{cases_lt}
@@ -132,8 +133,8 @@ sent-right split held t rows earlier begun since olds fresh sent m shown low sam
           let all : elements begun ++ elements olds ≡ elements (begun ++ since) =
           ap (λ (es : List Elem). elements begun ++ es) same ∙ sym (elements-append begun since) in
           SameBag-trans
-          (subst (λ (es : List Elem). SameBag (snapshot (earlier ++ elements sent) t) (snapshot es t))
-          all both) (old_right below (omega (arith, before, m.beat_old))))
+          (subst (λ (es : List Elem). SameBag (snapshot (earlier ++ elements sent) t)
+          (snapshot es t)) all both) (old_right below (omega (arith, before, m.beat_old))))
       | inr from ↦
           (let none : SameBag (snapshot earlier t) (snapshot [] t) =
           subst (SameBag (snapshot earlier t)) (over-none split t (elements begun) low from) shown

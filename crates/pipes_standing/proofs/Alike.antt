@@ -1,8 +1,7 @@
 -- What is written for a plan is so for another of the same answer.
-use Rattle.std.proofs.Common.{◌≡◌, ℕ, ◌<◌, List, ◌∷◌, ◌++◌, subst, sym}
+use Rattle.std.proofs.Common.{◌≡◌, ℕ, ◌<◌, List, subst, sym}
 use Rattle.std.specs.List.{All}
 use Rattle.pipes_time.specs.Interval.{horizon}
-use Rattle.pipes_tuple.specs.declared.value.Value.{Value}
 use Rattle.pipes_tuple.specs.declared.value.Kind.{Kind}
 use Rattle.pipes_tuple.specs.Bag.{SameBag}
 use Rattle.pipes_tuple.proofs.Bags.{SameBag-trans, SameBag-sym}

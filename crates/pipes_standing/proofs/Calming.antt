@@ -1,10 +1,10 @@
 -- What a call leaves of a standing query.
-use Rattle.std.proofs.Common.{◌≡◌, ℕ, ◌≤◌, ◌<◌, false, List, [], ◌∷◌, ◌++◌, slice_get, unwrap_or}
-use Rattle.std.proofs.Common.{Option, Some, refl, sym, ◌∙◌, ap, subst, arith, append_assoc}
+use Rattle.std.proofs.Common.{◌≡◌, ℕ, ◌≤◌, ◌<◌, List, [], ◌++◌, unwrap_or}
+use Rattle.std.proofs.Common.{Option, refl, sym, ◌∙◌, ap, subst, arith, append_assoc}
 use Rattle.std.proofs.Common.{append-nil}
+use Rattle.std.proofs.Common.{◌∷◌}
 use Rattle.std.specs.List.{All}
 use Rattle.std.proofs.lemmas.List.Elements.{All-weaker, All-contains}
-use Rattle.pipes_time.specs.Interval.{horizon, closed}
 use Rattle.pipes_tuple.specs.declared.value.Value.{Value}
 use Rattle.pipes_tuple.specs.declared.value.Kind.{Kind}
 use Rattle.pipes_tuple.specs.Kinds.{Fits}
@@ -14,30 +14,29 @@ use Rattle.pipes_stream.specs.declared.Elem.{Elem}
 use Rattle.pipes_stream.specs.declared.message.Message.{Message}
 use Rattle.pipes_stream.specs.Progress.{Progress}
 use Rattle.pipes_stream.specs.Snapshot.{snapshot}
-use Rattle.pipes_stream.specs.Lists.{run, start_of_list, Valid, ValidFrom, beat, elements, HasEnded}
+use Rattle.pipes_stream.specs.Lists.{run, start_of_list, Valid, beat, elements}
 use Rattle.pipes_stream.specs.Lawful.{Lists, no_messages}
 use Rattle.pipes_stream.proofs.Messages.{run-append, run-rises, valid-prefix, valid-suffix}
 use Rattle.pipes_stream.proofs.Messages.{elements-append, beat-closed, beat-ended}
 use Rattle.pipes_stream.proofs.Ports.{All-parts}
 use Rattle.pipes_stream.proofs.Snapshots.{snapshot-append}
 use Rattle.pipes_plan.specs.declared.plan.Plan.{Plan}
-use Rattle.pipes_plan.specs.PlanKinds.{IsTyped, plan_kinds}
+use Rattle.pipes_plan.specs.PlanKinds.{IsTyped}
 use Rattle.pipes_output.specs.declared.entry.Entry.{Entry}
-use Rattle.pipes_semantics.specs.Written.{results, written_snapshot}
-use Rattle.pipes_box.specs.Shapes.{shape_of}
-use Rattle.pipes_box.specs.Prompt.{lag_of, floors}
+use Rattle.pipes_output.specs.declared.entry.Entry.TheVariants as entry
+use Rattle.pipes_semantics.specs.Written.{results}
 use Rattle.pipes_box.specs.Boxes.{IsStill}
-use Rattle.pipes_works.specs.Sources.{AnswersSources, KeepsUpWithSources, Reads, AllReached}
+use Rattle.pipes_works.specs.Sources.{AnswersSources, KeepsUpWithSources, AllReached}
 use Rattle.pipes_works.specs.Sources.{IsCoveredBySource}
 use Rattle.pipes_works.specs.Standing.{WorksStand, MayCome, Puts}
 use Rattle.pipes_written.specs.declared.output.Output.{Output}
 use Rattle.pipes_written.specs.Written.{Answers, IsWritten, Continues, results_of, level_after}
-use Rattle.pipes_written.specs.Made.{Made, Adds}
+use Rattle.pipes_written.specs.Made.{Made, Adds, TellsMove}
 use Rattle.pipes_written.proofs.Splits.{results-append, results-map}
 use Rattle.pipes_written.proofs.Writes.{level-is}
 use Rattle.pipes_standing.specs.declared.standing.Standing.{Standing}
-use Rattle.pipes_standing.specs.Calms.{Rows, AllFed, AllEndBy, answer_of, kinds_of, Calm, IsUpToDate}
-use Rattle.pipes_standing.specs.Calms.{TakesIn, Settles, nothing_more}
+use Rattle.pipes_standing.specs.Calms.{Rows, AllFed, AllEndBy, answer_of, kinds_of, Calm}
+use Rattle.pipes_standing.specs.Calms.{IsUpToDate, TakesIn, Settles, Tells, nothing_more}
 
 -- bags of which both parts are the same
 both-same : (a b c d : List Elem) (t : ℕ) → SameBag (snapshot a t) (snapshot b t) → c ≡ d
@@ -358,3 +357,40 @@ settles-then old mid new last none s works sent adds written =
           );
       ends = s.ends;
     }
+
+-- entries that tell of a migration are no results
+pub tells-none : (e : Entry) → TellsMove e → results (e ∷ []) ≡ []
+tells-none (entry.Result x) tells = absurd tells
+tells-none (entry.Beat h) tells = absurd tells
+tells-none (entry.Accepted number split) tells = refl
+tells-none (entry.Refused command why) tells = refl
+tells-none (entry.Idle number) tells = refl
+tells-none (entry.Over number) tells = refl
+tells-none (entry.Drained inputs output) tells = absurd tells
+tells-none entry.Ended tells = absurd tells
+tells-none entry.Stopped tells = absurd tells
+
+pub tells-more : (old new : Standing) (more : List Entry) → new.works ≡ old.works
+    → new.sent ≡ old.sent → new.failed ≡ old.failed → Adds old.output new.output more
+    → results more ≡ []
+    → ((kinds : List Kind) (answer : Answers) (entries : List Entry)
+    → IsWritten kinds answer old.output.beat entries
+    → IsWritten kinds answer new.output.beat (entries ++ more))
+    → Tells old new more
+tells-more old new more works sent failed adds none written = record {
+  entries = adds.entries;
+  beat = adds.beat;
+  works = works;
+  sent = sent;
+  failed = failed;
+  calm = λ schemas plan rows base by_source got entries calm.
+      calm-more schemas plan rows base by_source got entries more old new works sent adds.beat none
+      (written (kinds_of schemas plan) (answer_of plan rows) entries) calm;
+}
+
+-- no entry, and the output has come no further
+pub written-still : (old new : Output) → Adds old new [] → (kinds : List Kind) (answer : Answers)
+    (entries : List Entry) → IsWritten kinds answer old.beat entries
+    → IsWritten kinds answer new.beat (entries ++ [])
+written-still old new adds kinds answer entries w =
+    subst (IsWritten kinds answer new.beat) (sym (append-nil entries)) (rw adds.beat w)

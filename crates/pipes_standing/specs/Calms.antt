@@ -1,5 +1,5 @@
 -- A standing query: a plan at work over its sources, and what was written of its answer.
-use Rattle.std.specs.Prelude.{◌≡◌, ℕ, ◌≤◌, ◌<◌, Bool, List, [], ◌∷◌, ◌++◌, slice_get, unwrap_or}
+use Rattle.std.specs.Prelude.{◌≡◌, ℕ, ◌≤◌, ◌<◌, List, [], ◌++◌, slice_get, unwrap_or}
 use Rattle.std.specs.List.{All}
 use Rattle.pipes_time.specs.Interval.{horizon, closed}
 use Rattle.pipes_tuple.specs.declared.value.Value.{Value}
@@ -9,7 +9,7 @@ use Rattle.pipes_stream.specs.declared.Elem.{Elem}
 use Rattle.pipes_stream.specs.declared.message.Message.{Message}
 use Rattle.pipes_stream.specs.Snapshot.{snapshot}
 use Rattle.pipes_stream.specs.Lists.{beat, elements}
-use Rattle.pipes_stream.specs.Lawful.{Lists, with_message, least}
+use Rattle.pipes_stream.specs.Lawful.{Lists, with_message}
 use Rattle.pipes_plan.specs.declared.plan.Plan.{Plan}
 use Rattle.pipes_plan.specs.PlanKinds.{IsTyped, plan_kinds}
 use Rattle.pipes_plan.specs.Algebra.{alg}
@@ -19,9 +19,8 @@ use Rattle.pipes_box.specs.Shapes.{shape_of}
 use Rattle.pipes_box.specs.Prompt.{lag_of, floors}
 use Rattle.pipes_box.specs.Boxes.{IsStill}
 use Rattle.pipes_works.specs.Sources.{Reads, AllReached, AllWithin, AllSourcesEnded}
-use Rattle.pipes_works.specs.Standing.{WorksStand, IsWhole, MayCome, source_count}
+use Rattle.pipes_works.specs.Standing.{WorksStand, MayCome}
 use Rattle.pipes_written.specs.Written.{Answers, IsWritten, results_of}
-use Rattle.pipes_written.specs.Made.{last_entry, drained}
 use Rattle.pipes_standing.specs.declared.standing.Standing.{Standing}
 
 -- For each instant a bag for each source: what its window holds then, over all items of the run.
@@ -112,6 +111,18 @@ pub record Settles (old new : Standing) (last : ℕ → List Entry) : Type 0 whe
 -- no entry more
 abbrev pub nothing_more : ℕ → List Entry
 nothing_more output = []
+
+-- These entries were made, which say nothing of results, and nothing else is changed.
+pub record Tells (old new : Standing) (more : List Entry) : Type 0 where
+  pub entries : MakesEntries old new more
+  pub beat : new.output.beat ≡ old.output.beat
+  pub works : new.works ≡ old.works
+  pub sent : new.sent ≡ old.sent
+  pub failed : new.failed ≡ old.failed
+  pub calm : (schemas : List (List Kind)) (plan : Plan) (rows : Rows) (base : ℕ)
+      (by_source : Lists) (got : List Message) (entries : List Entry)
+      → Calm old schemas plan rows base by_source got entries
+      → Calm new schemas plan rows base by_source got (entries ++ more)
 
 -- The output has come as far as the sources: it is kept back by no more than the elements that
 -- reach there, and not at all where no operator lags; and to the end, once all sources have ended.

@@ -1,5 +1,5 @@
 // A query of which one plan is at work.
-ghost use Rattle.std.specs.Prelude.{◌≡◌, ◌≤◌, ◌<◌, ◌^◌, ◌-◌, [], ◌∷◌, ℕ, List, min, true, false};
+ghost use Rattle.std.specs.Prelude.{◌≡◌, ◌≤◌, ◌<◌, ◌^◌, ◌-◌, ◌+◌, [], ◌∷◌, ℕ, List, min, true, false};
 ghost use Rattle.std.specs.Prelude.{IfOk, OnOk, OnErr, IsErr, ◌↔◌, IsTrue};
 ghost use Rattle.std.specs.Bool.{OnTrue};
 ghost use Rattle.pipes_time.specs.Interval.{closed};
@@ -18,9 +18,10 @@ ghost use Rattle.pipes_semantics.specs.Right.{Final, Right};
 ghost use Rattle.pipes_box.specs.Boxes.{all_held};
 ghost use Rattle.pipes_works.specs.Sources.{AllSourcesEnded};
 ghost use Rattle.pipes_works.specs.Standing.{IsWhole, WorksStand, MayCome, source_count};
-ghost use Rattle.pipes_written.specs.Made.{last_entry, drained, HasRoom};
+ghost use Rattle.pipes_written.specs.Made.{last_entry, drained, HasRoom, TellsMove};
 
 use pipes_edge::Gate;
+use pipes_output::Entry;
 use pipes_plan::{Plan, Schemas};
 use pipes_stream::Message;
 use pipes_time::Memory;
@@ -56,7 +57,7 @@ pub struct Parts {
 impl Standing {
     ghost use Rattle.pipes_standing.specs.Calms.{Calm, Rows, IsSettled, TakesIn, Settles};
     ghost use Rattle.pipes_standing.specs.Calms.{MakesEntries, nothing_more, IsUpToDate};
-    ghost use Rattle.pipes_standing.specs.Calms.{AnswerAlike};
+    ghost use Rattle.pipes_standing.specs.Calms.{AnswerAlike, Tells};
 
     /// The plan at work over sources with these schemas, by at most so many workers. Nothing has
     /// come, and nothing is written.
@@ -251,6 +252,26 @@ impl Standing {
         self.settle_for(rt, gate, 1)?;
         self.output.end(stopped);
         Ok(())
+    }
+
+    /// Makes room for so many more entries.
+    pub fn reserve(&mut self, room: usize) -> Result<(), Memory>
+        ensures tells { Tells self.old self.new [] }
+        ensures room { OnOk result (HasRoom self.new.output room) }
+    {
+        self.output.reserve(room)?;
+        Ok(())
+    }
+
+    /// Tells of a migration: the reply to what was asked for, that it is idle, or that it is over.
+    /// There is room for it.
+    pub fn tell(&mut self, entry: Entry)
+        requires room { HasRoom self.old.output 1 }
+        requires of_move { TellsMove entry }
+        ensures tells { Tells self.old self.new (entry ∷ []) }
+        ensures left { (n : ℕ) → HasRoom self.old.output (n + 1) → HasRoom self.new.output n }
+    {
+        self.output.tell(entry);
     }
 
     /// Once settled, the output has come as far as the sources allow, and to the end after the end

@@ -4,7 +4,7 @@ use Rattle.pipes_buffer.specs.Pieces.{AppendsPrefix}
 use Rattle.pipes_tuple.specs.declared.value.Value.{Value}
 use Rattle.pipes_answer.specs.Lines.{tuple_lines}
 use Rattle.pipes_error.specs.Fault.{Fault, fault_seen}
-use Rattle.pipes_args.specs.Command as command
+use Rattle.pipes_run.specs.Errand as errand
 use Rattle.pipes_run.specs.Outcome.{FaultCounts, RanAfter}
 use Rattle.pipes_run.proofs.Answering.{answered, unanswered}
 use Rattle.pipes_run.proofs.answer.answer_checked.Goals as goal
@@ -32,7 +32,7 @@ returns-in-Ok g c = λ name.
     let prefix = subst (λ (rows : List (List Value)). OnErr c.write_tuples.result
     (AppendsPrefix first last (tuple_lines rows))) c.as_slice.ensures.value
     c.write_tuples.ensures.prefix in
-    subst (λ (fault : Option Fault). RanAfter (command.At name c.args.time) c.args.query.now
+    subst (λ (fault : Option Fault). RanAfter (errand.At name c.args.time) c.args.query.now
     (g.F.Files.known c.args.files.now) before now first last fault) (sym c.written.ensures)
     (answered name c.args.query.now (g.F.Files.known c.args.files.now) before now first last
     c.in-Ok.tuples.items c.args.time c.write_tuples.result c.in-Ok.ensures.order

@@ -1,13 +1,13 @@
 use Rattle.std.proofs.Common.{refl}
 use Rattle.pipes_error.specs.Fault.{fault_seen}
-use Rattle.pipes_args.specs.Command as command
+use Rattle.pipes_run.specs.Errand as errand
 use Rattle.pipes_run.specs.Outcome.{FaultCounts}
 use Rattle.pipes_run.specs.Seen.{step_fault}
 use Rattle.pipes_run.proofs.Composing.{ran_unread, ran_unstarted, ran_read}
 use Rattle.pipes_run.proofs.answer.answer_query.Goals as goal
 
 pub returns-in_default : goal.returns-in_default
-returns-in_default g c = ran_unstarted (command.At c.args.query.now c.args.time)
+returns-in_default g c = ran_unstarted (errand.At c.args.query.now c.args.time)
     (g.F.Files.known c.args.files.now) _ _ (g.K.Sink.written c.args.out.now)
 
 pub returns-in-Ok-query_at : goal.returns-in-Ok-query_at
@@ -32,7 +32,7 @@ returns-in-Ok-query_at g c =
           g.K.Sink.faults c.answer_checked.new.out;
     } in
     let read = c.in-Ok-query_at.ensures in
-    ran_read (command.At c.args.query.now c.args.time) c.in-Ok-query_at.checked.query
+    ran_read (errand.At c.args.query.now c.args.time) c.in-Ok-query_at.checked.query
     (g.F.Files.known c.args.files.now) (g.F.Files.known c.query_at.new.files) before mid now
     (g.K.Sink.written c.args.out.now) (g.K.Sink.written c.answer_checked.new.out)
     (step_fault c.answer_checked.result) read.known read.later read.searches refl read.gives
@@ -42,6 +42,6 @@ returns-in-Ok-query_at g c =
 pub returns : goal.returns
 returns g c =
     let read = c.in-Err.ensures in
-    ran_unread (command.At c.args.query.now c.args.time) (g.F.Files.known c.args.files.now) _ _
+    ran_unread (errand.At c.args.query.now c.args.time) (g.F.Files.known c.args.files.now) _ _
     (g.K.Sink.written c.args.out.now) (fault_seen c.in-Err.fault) read.served read.cause
     read.gives (λ files query tells holds. read.only files query tells holds)

@@ -1,5 +1,5 @@
 use Rattle.std.proofs.Common.{ℕ, List, Option, sym, subst}
-use Rattle.pipes_args.specs.Command as command
+use Rattle.pipes_run.specs.Errand as errand
 use Rattle.pipes_error.specs.Fault.{Fault, fault_seen}
 use Rattle.pipes_run.specs.Outcome.{FaultCounts, IsVerdict, RanAfter}
 use Rattle.pipes_run.proofs.Deriving.{verdict_written, derivation_unread}
@@ -20,7 +20,7 @@ returns-in-Ok-verdict g c = λ query_name.
     let verdict : IsVerdict c.args.query.now c.in-Ok.derivation c.as_slice.result.now =
     subst (IsVerdict c.args.query.now c.in-Ok.derivation) (sym c.as_slice.ensures.value)
     c.in-Ok-verdict.ensures in
-    subst (RanAfter (command.Derive query_name c.args.name.now) c.args.query.now
+    subst (RanAfter (errand.Derive query_name c.args.name.now) c.args.query.now
     (g.F.Files.known c.args.files.now) before now (g.K.Sink.written c.args.out.now)
     (g.K.Sink.written c.write_text.new.out)) (sym c.written.ensures)
     (verdict_written query_name c.args.name.now c.args.query.now

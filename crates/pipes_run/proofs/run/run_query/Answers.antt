@@ -1,6 +1,6 @@
 use Rattle.std.proofs.Common.{refl}
 use Rattle.pipes_error.specs.Fault.{fault_seen}
-use Rattle.pipes_args.specs.Command as command
+use Rattle.pipes_run.specs.Errand as errand
 use Rattle.pipes_run.specs.Outcome.{FaultCounts}
 use Rattle.pipes_run.specs.Seen.{step_fault}
 use Rattle.pipes_run.proofs.Composing.{ran_unread, ran_unstarted, ran_read}
@@ -8,7 +8,8 @@ use Rattle.pipes_run.proofs.Declared.{windows_within}
 use Rattle.pipes_run.proofs.run.run_query.Goals as goal
 
 pub returns-in_default : goal.returns-in_default
-returns-in_default g c = ran_unstarted (command.Run c.args.query.now c.args.script.now c.args.form)
+returns-in_default g c = ran_unstarted (errand.Run c.args.query.now c.args.script.now
+    c.args.settings.form)
     (g.F.Files.known c.args.files.now) _ _ (g.K.Sink.written c.args.out.now)
 
 pub run_checked-requires-clause-windows : goal.run_checked-requires-clause-windows
@@ -37,7 +38,7 @@ returns-in-Ok-query_at g c =
           g.K.Sink.faults c.run_checked.new.out;
     } in
     let read = c.in-Ok-query_at.ensures in
-    ran_read (command.Run c.args.query.now c.args.script.now c.args.form)
+    ran_read (errand.Run c.args.query.now c.args.script.now c.args.settings.form)
     c.in-Ok-query_at.checked.query (g.F.Files.known c.args.files.now)
     (g.F.Files.known c.query_at.new.files) before mid now
     (g.K.Sink.written c.args.out.now) (g.K.Sink.written c.run_checked.new.out)
@@ -48,7 +49,7 @@ returns-in-Ok-query_at g c =
 pub returns : goal.returns
 returns g c =
     let read = c.in-Err.ensures in
-    ran_unread (command.Run c.args.query.now c.args.script.now c.args.form)
+    ran_unread (errand.Run c.args.query.now c.args.script.now c.args.settings.form)
     (g.F.Files.known c.args.files.now) _ _ (g.K.Sink.written c.args.out.now)
     (fault_seen c.in-Err.fault) read.served read.cause read.gives
     (λ files query tells holds. read.only files query tells holds)

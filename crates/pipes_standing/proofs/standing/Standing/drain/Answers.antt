@@ -1,4 +1,4 @@
-use Rattle.std.proofs.Common.{◌≡◌, ℕ, refl, subst}
+use Rattle.std.proofs.Common.{ℕ, refl, subst}
 use Rattle.pipes_written.specs.Made.{drained}
 use Rattle.pipes_standing.specs.declared.standing.Standing.{Standing}
 use Rattle.pipes_standing.specs.Calms.{Settles}

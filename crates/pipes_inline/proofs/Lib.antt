@@ -1,0 +1,9 @@
+pub mod Putting
+pub mod Outgoing
+pub mod Places
+pub mod Reading
+pub mod Answering
+pub mod Opening
+pub mod Turning
+pub mod Finishing
+pub mod Outcomes

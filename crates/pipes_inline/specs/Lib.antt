@@ -1,0 +1,3 @@
+pub mod Ran
+pub mod Standing
+pub mod Ending

@@ -1,0 +1,4 @@
+pub mod Keeping
+pub mod Transfer
+pub mod Entries
+pub mod Texts
