@@ -1,7 +1,7 @@
 -- A plan begins to take the place of another.
-use Rattle.std.proofs.Common.{◌≡◌, ◌↔◌, IsTrue, ℕ, ◌≤◌, ◌<◌, max, Bool, true, false, List, []}
+use Rattle.std.proofs.Common.{◌≡◌, ◌↔◌, IsTrue, ℕ, ◌+◌, ◌≤◌, ◌<◌, max, Bool, true, false, List, []}
 use Rattle.std.proofs.Common.{◌∷◌, ◌++◌}
-use Rattle.std.proofs.Common.{refl, sym, ◌∙◌, ap, arith, append-nil}
+use Rattle.std.proofs.Common.{refl, sym, ◌∙◌, ap, subst, arith, append-nil}
 use Rattle.std.specs.List.{All}
 use Rattle.std.proofs.lemmas.List.Elements.{All-nil}
 use Rattle.pipes_time.specs.Interval.{closed}
@@ -9,7 +9,7 @@ use Rattle.pipes_tuple.specs.declared.value.Kind.{Kind}
 use Rattle.pipes_stream.specs.declared.Elem.{Elem}
 use Rattle.pipes_stream.specs.declared.message.Message.{Message}
 use Rattle.pipes_stream.specs.declared.message.Message.TheVariants as message
-use Rattle.pipes_stream.specs.Lists.{run, start_of_list, beat, HasEnded}
+use Rattle.pipes_stream.specs.Lists.{run, start_of_list, beat, elements, HasEnded}
 use Rattle.pipes_stream.specs.Lawful.{Lists, no_messages}
 use Rattle.pipes_coalesce.specs.Stands.{CoalesceStands}
 use Rattle.pipes_seam.specs.Seams.{opening_of, end_of}

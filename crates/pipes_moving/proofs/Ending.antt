@@ -1,10 +1,12 @@
 -- A change is over: the fresh plan stands alone.
-use Rattle.std.proofs.Common.{◌≡◌, ◌⊎◌, ℕ, ◌≤◌, ◌<◌, max, List, [], ◌∷◌, ◌++◌}
-use Rattle.std.proofs.Common.{slice_get, unwrap_or, sym, ◌∙◌, ap, subst, arith, inl, inr}
+use Rattle.std.proofs.Common.{◌≡◌, ◌⊎◌, ℕ, ◌+◌, ◌≤◌, ◌<◌, max, true, List, [], ◌∷◌, ◌++◌, length}
+use Rattle.std.proofs.Common.{get_or}
+use Rattle.std.proofs.Common.{slice_get, unwrap_or, refl, sym, ◌∙◌, ap, subst, arith, inl, inr}
 use Rattle.std.proofs.Common.{append-nil}
 use Rattle.std.specs.List.{All}
 use Rattle.std.proofs.lemmas.List.Elements.{All-weaker}
-use Rattle.pipes_time.specs.Interval.{closed}
+use Rattle.pipes_time.specs.Interval.{horizon, closed}
+use Rattle.pipes_tuple.specs.declared.value.Value.{Value}
 use Rattle.pipes_tuple.specs.declared.value.Kind.{Kind}
 use Rattle.pipes_tuple.specs.Bag.{SameBag}
 use Rattle.pipes_stream.specs.declared.Elem.{Elem}
@@ -16,8 +18,8 @@ use Rattle.pipes_stream.specs.Lawful.{Lists, IsCovered, floor}
 use Rattle.pipes_stream.specs.Weights.{weigh}
 use Rattle.pipes_stream.proofs.Messages.{beat-ended, elements-append}
 use Rattle.pipes_stream.proofs.Ports.{floor-below, All-parts}
-use Rattle.pipes_coalesce.specs.Tests.{ends_above}
-use Rattle.pipes_coalesce.specs.Stands.{IsMerged, held_of}
+use Rattle.pipes_coalesce.specs.Tests.{ends_above, starts_below}
+use Rattle.pipes_coalesce.specs.Stands.{CoalesceStands, IsMerged, held_of}
 use Rattle.pipes_coalesce.specs.Merged.{Merged}
 use Rattle.pipes_seam.specs.Seams.{opening_of}
 use Rattle.pipes_seam.proofs.Going.{both-weigh}
@@ -27,14 +29,14 @@ use Rattle.pipes_seam.proofs.Over.{over-held, over-above, over-same}
 use Rattle.pipes_plan.specs.declared.plan.Plan.{Plan}
 use Rattle.pipes_node.proofs.NodeSteps.{get-any}
 use Rattle.pipes_output.specs.declared.entry.Entry.{Entry}
-use Rattle.pipes_semantics.specs.Written.{results}
+use Rattle.pipes_semantics.specs.Written.{results, written_snapshot}
 use Rattle.pipes_box.specs.Shapes.{Shape, shape_of, leaf_count, sources_of, LeafFits}
 use Rattle.pipes_box.specs.Prompt.{lag_of, floors}
 use Rattle.pipes_works.specs.Sources.{AnswersSources, KeepsUpWithSources, AllReached, AllWithin}
 use Rattle.pipes_works.specs.Sources.{AllSourcesEnded, Reads, by_leaf, source_of}
 use Rattle.pipes_works.specs.Standing.{WorksStand}
 use Rattle.pipes_works.specs.declared.works.Works.{Works}
-use Rattle.pipes_works.proofs.Leaves.{sources-count, each-at, fits-each}
+use Rattle.pipes_works.proofs.Leaves.{sources-count, EachLeaf, each-at, fits-each}
 use Rattle.pipes_works.proofs.GivenKinds.{plan-over}
 use Rattle.pipes_standing.specs.declared.standing.Standing.{Standing}
 use Rattle.pipes_standing.specs.Calms.{Rows, Calm}

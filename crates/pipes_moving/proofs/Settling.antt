@@ -1,23 +1,25 @@
 -- What a settle leaves while a plan is replaced.
-use Rattle.std.proofs.Common.{◌≡◌, ℕ, ◌≤◌, ◌<◌, max, false, List, [], ◌++◌}
+use Rattle.std.proofs.Common.{◌≡◌, ℕ, ◌+◌, ◌≤◌, ◌<◌, max, false, List, [], ◌∷◌, ◌++◌, slice_get}
 use Rattle.std.proofs.Common.{unwrap_or}
 use Rattle.std.proofs.Common.{Option, refl, sym, ◌∙◌, ap, subst, arith, append_assoc, append-nil}
 use Rattle.std.specs.List.{All}
 use Rattle.std.proofs.lemmas.List.Elements.{All-same}
-use Rattle.pipes_time.specs.Interval.{horizon}
+use Rattle.pipes_time.specs.Interval.{horizon, closed}
+use Rattle.pipes_tuple.specs.declared.value.Value.{Value}
 use Rattle.pipes_tuple.specs.declared.value.Kind.{Kind}
 use Rattle.pipes_tuple.specs.Kinds.{Fits}
 use Rattle.pipes_tuple.specs.Bag.{SameBag}
 use Rattle.pipes_tuple.proofs.Bags.{SameBag-trans}
 use Rattle.pipes_stream.specs.declared.Elem.{Elem}
 use Rattle.pipes_stream.specs.declared.message.Message.{Message}
+use Rattle.pipes_stream.specs.Progress.{Progress}
 use Rattle.pipes_stream.specs.Snapshot.{snapshot}
-use Rattle.pipes_stream.specs.Lists.{Valid, ValidFrom, beat, elements}
+use Rattle.pipes_stream.specs.Lists.{run, start_of_list, Valid, ValidFrom, beat, elements}
 use Rattle.pipes_stream.specs.Lawful.{Lists}
 use Rattle.pipes_stream.specs.Weights.{weigh}
 use Rattle.pipes_stream.proofs.Messages.{elements-append}
-use Rattle.pipes_coalesce.specs.Tests.{ends_above}
-use Rattle.pipes_coalesce.specs.Stands.{IsMerged}
+use Rattle.pipes_coalesce.specs.Tests.{ends_above, starts_below}
+use Rattle.pipes_coalesce.specs.Stands.{CoalesceStands, IsMerged}
 use Rattle.pipes_seam.specs.declared.seam.Seam.{Seam}
 use Rattle.pipes_seam.specs.Seams.{Joins, told, level_of, opening_of}
 use Rattle.pipes_seam.proofs.Telling.{told-elements, told-level}
@@ -25,21 +27,22 @@ use Rattle.pipes_seam.proofs.Going.{Goes, goes, both-weigh}
 use Rattle.pipes_seam.proofs.Openings.{opened-list-elements}
 use Rattle.pipes_seam.proofs.Spans.{ends-none, none-ends}
 use Rattle.pipes_plan.specs.declared.plan.Plan.{Plan}
-use Rattle.pipes_plan.specs.PlanKinds.{IsTyped}
+use Rattle.pipes_plan.specs.PlanKinds.{IsTyped, plan_kinds}
 use Rattle.pipes_output.specs.declared.entry.Entry.{Entry}
-use Rattle.pipes_semantics.specs.Written.{results}
+use Rattle.pipes_output.specs.declared.entry.Entry.TheVariants as entry
+use Rattle.pipes_semantics.specs.Written.{results, written_snapshot}
 use Rattle.pipes_box.specs.Boxes.{IsStill}
-use Rattle.pipes_works.specs.Sources.{AnswersSources, AllReached, KeepsUpWithSources}
+use Rattle.pipes_works.specs.Sources.{AnswersSources, AllReached, KeepsUpWithSources, Reads}
 use Rattle.pipes_works.specs.Standing.{WorksStand}
 use Rattle.pipes_written.specs.declared.output.Output.{Output}
 use Rattle.pipes_written.specs.Written.{Answers, IsWritten, Continues, results_of, level_after}
-use Rattle.pipes_written.specs.Made.{Made, Adds}
+use Rattle.pipes_written.specs.Made.{Made, Adds, TellsMove}
 use Rattle.pipes_written.proofs.Splits.{results-append, results-map}
 use Rattle.pipes_standing.specs.Calms.{Rows, AllFed, AllEndBy, answer_of, kinds_of}
 use Rattle.pipes_standing.proofs.Calming.{top-ends}
 use Rattle.pipes_moving.specs.declared.moving.Moving.{Moving}
 use Rattle.pipes_moving.specs.Moves.{IsMoving, FedBelow, split_of, first_of}
-use Rattle.pipes_moving.specs.Steps.{WorksBothOff, Settles, nothing_more, Tells}
+use Rattle.pipes_moving.specs.Steps.{WorksBothOff, Settles, IsSettled, nothing_more, Tells}
 use Rattle.pipes_moving.proofs.Tops.{top-starts}
 
 -- the kinds of what comes to a top
@@ -472,27 +475,38 @@ settles-same old mid new last s same output =
       ends = s.ends;
     }
 
--- entries that tell of a migration were made
-pub tells-more : (old new : Moving) (more : List Entry) → SameButOutput old new
-    → new.failed ≡ old.failed → Adds old.output new.output more → results more ≡ []
+no-result : (e : Entry) → TellsMove e → results (e ∷ []) ≡ []
+no-result (entry.Result e) t = absurd t
+no-result (entry.Beat h) t = absurd t
+no-result (entry.Accepted number split) t = refl
+no-result (entry.Refused command why) t = refl
+no-result (entry.Idle number) t = refl
+no-result (entry.Over number) t = refl
+no-result (entry.Drained inputs output) t = absurd t
+no-result entry.Ended t = absurd t
+no-result entry.Stopped t = absurd t
+
+-- an entry that tells of a migration was made, where room was made before
+pub tells : (old new : Moving) (mid : Output) (e : Entry) → SameButOutput old new → TellsMove e
+    → Adds old.output mid [] → Adds mid new.output (e ∷ [])
     → ((kinds : List Kind) (answer : Answers) (entries : List Entry)
-    → IsWritten kinds answer old.output.beat entries
-    → IsWritten kinds answer new.output.beat (entries ++ more))
-    → Tells old new more
-tells-more old new more same failed adds none written = record {
-  entries = adds.entries;
-  beat = adds.beat;
-  seam = same.seam;
-  failed = failed;
-  whole = λ w. rw (same.old_works, same.fresh_works) w;
-  count = rw (same.old_works, same.fresh_works) (refl, refl);
+    → IsWritten kinds answer mid.beat entries
+    → IsWritten kinds answer new.output.beat (entries ++ e ∷ []))
+    → Tells old new e
+tells old new mid e same of_move first adds written = record {
+  entries = adds.entries ∙ ap (λ (l : List Entry). l ++ e ∷ [])
+      (first.entries ∙ append-nil old.output.entries.items);
   settled = λ s. record {
     old_still = rw same.old_works s.old_still;
     fresh_still = rw same.fresh_works s.fresh_still;
     no_olds = rw same.olds s.no_olds;
     no_news = rw same.news s.no_news;
   };
-  moves = λ schemas before after rows base below from entries s.
-      moving-more schemas before after rows base below from entries more old new same adds.beat none
-      (written (kinds_of schemas before) (answer_of before rows) entries) s;
+  seam = same.seam;
+  beat = adds.beat ∙ first.beat;
+  holds = λ schemas before after rows base below from entries m.
+      moving-more schemas before after rows base below from entries (e ∷ []) old new same
+      (adds.beat ∙ first.beat) (no-result e of_move)
+      (λ w. written (kinds_of schemas before) (answer_of before rows) entries
+      (rw first.beat w)) m;
 }

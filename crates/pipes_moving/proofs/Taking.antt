@@ -1,21 +1,27 @@
 -- A message was taken in while a plan is replaced.
-use Rattle.std.proofs.Common.{◌≡◌, ℕ, ◌≤◌, max, Bool, true, false, cond, eqb, List, [], ◌∷◌}
+use Rattle.std.proofs.Common.{◌≡◌, ℕ, ◌+◌, ◌≤◌, max, Bool, true, false, cond, eqb, List, [], ◌∷◌}
 use Rattle.std.proofs.Common.{◌++◌}
-use Rattle.std.proofs.Common.{refl, sym, ◌∙◌, ap, append-nil, append_assoc}
+use Rattle.std.proofs.Common.{refl, sym, ◌∙◌, ap, subst, arith, append-nil, append_assoc}
 use Rattle.std.proofs.Common.{inl, inr}
 use Rattle.std.specs.List.{All}
 use Rattle.std.proofs.lemmas.List.Elements.{All-nil, All-cons, All-append, All-same}
+use Rattle.pipes_tuple.specs.declared.value.Kind.{Kind}
 use Rattle.pipes_stream.specs.declared.Elem.{Elem}
 use Rattle.pipes_stream.specs.declared.message.Message.{Message}
 use Rattle.pipes_stream.specs.declared.message.Message.TheVariants as message
 use Rattle.pipes_stream.specs.Lists.{elements}
+use Rattle.pipes_stream.specs.Lawful.{Lists, with_message}
 use Rattle.pipes_stream.proofs.Messages.{elements-append}
 use Rattle.pipes_coalesce.specs.Stands.{EndsBy, StartsFromSplit}
 use Rattle.pipes_seam.specs.Seams.{opening_of}
-use Rattle.pipes_works.specs.Standing.{Puts}
+use Rattle.pipes_plan.specs.declared.plan.Plan.{Plan}
+use Rattle.pipes_output.specs.declared.entry.Entry.{Entry}
+use Rattle.pipes_works.specs.Sources.{Reads}
+use Rattle.pipes_works.specs.Standing.{Puts, MayCome}
 use Rattle.pipes_written.specs.declared.output.Output.{Output}
+use Rattle.pipes_standing.specs.Calms.{Rows}
 use Rattle.pipes_moving.specs.declared.moving.Moving.{Moving}
-use Rattle.pipes_moving.specs.Moves.{split_of, first_of}
+use Rattle.pipes_moving.specs.Moves.{IsMoving, AllStartFrom, split_of, first_of}
 use Rattle.pipes_moving.specs.Steps.{TakesOld, TakesFresh, MayComeOld, MayComeFresh}
 
 message-ends : (split : ℕ) (m : Message) → EndsBy split m
@@ -87,7 +93,7 @@ takes-old old new source m puts fresh news seam output may = record {
     beat_is = rw (output, seam) s.beat_is;
   };
   passed_over = λ not. absurd (not may);
-  tested = inl may;
+  may = inl may;
   seam = seam;
 }
 
@@ -98,7 +104,7 @@ passes-old s source m not = record {
   beat = refl;
   taken_in = λ may. absurd (not may);
   passed_over = λ _. refl;
-  tested = inr not;
+  may = inr not;
   seam = refl;
 }
 
@@ -148,7 +154,7 @@ takes-fresh old new source m puts works olds seam output may = record {
         beat_is = rw (output, seam) s.beat_is;
       };
   passed_over = λ not. absurd (not may);
-  tested = inl may;
+  may = inl may;
   seam = seam;
 }
 
@@ -159,6 +165,6 @@ passes-fresh s source m not = record {
   beat = refl;
   taken_in = λ may. absurd (not may);
   passed_over = λ _. refl;
-  tested = inr not;
+  may = inr not;
   seam = refl;
 }

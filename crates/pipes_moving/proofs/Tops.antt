@@ -1,10 +1,11 @@
 -- Where what comes to the top of a plan starts and ends.
-use Rattle.std.proofs.Common.{◌≡◌, ℕ, zero, suc, ◌≤◌, Bool, true, false, cond, nat_le}
+use Rattle.std.proofs.Common.{◌≡◌, ℕ, zero, suc, ◌+◌, ◌≤◌, ◌<◌, Bool, true, false, cond, nat_le}
 use Rattle.std.proofs.Common.{min}
-use Rattle.std.proofs.Common.{List, [], ◌∷◌, refl, ◌∙◌, ap, arith}
-use Rattle.std.specs.List.{All}
+use Rattle.std.proofs.Common.{List, [], ◌∷◌, ◌++◌, refl, ◌∙◌, ap, arith}
+use Rattle.std.specs.List.{All, Contains}
 use Rattle.std.proofs.lemmas.List.Elements.{All-head, All-tail, All-contains, Contains-push}
-use Rattle.pipes_time.specs.Interval.{horizon}
+use Rattle.pipes_time.specs.Interval.{horizon, closed, IsInterval}
+use Rattle.pipes_tuple.specs.declared.value.Value.{Value}
 use Rattle.pipes_tuple.specs.declared.value.Kind.{Kind}
 use Rattle.pipes_stream.specs.declared.Elem.{Elem}
 use Rattle.pipes_stream.specs.declared.message.Message.{Message}
@@ -16,7 +17,7 @@ use Rattle.pipes_coalesce.specs.Tests.{starts_below}
 use Rattle.pipes_coalesce.proofs.Touching.{not-lt}
 use Rattle.pipes_plan.specs.declared.plan.Plan.{Plan}
 use Rattle.pipes_box.specs.Prompt.{floors}
-use Rattle.pipes_works.specs.Sources.{IsCoveredBySource}
+use Rattle.pipes_works.specs.Sources.{Reads, IsCoveredBySource}
 use Rattle.pipes_moving.specs.Moves.{AllStartFrom}
 
 module _ (schemas : List (List Kind)) (plan : Plan) (by_source : Lists) where

@@ -1,16 +1,18 @@
 -- A plan is replaced: two plans are at work at once, and one list of entries is written.
-use Rattle.std.specs.Prelude.{◌≡◌, ◌⊎◌, ℕ, suc, ◌≤◌, ◌<◌, ◌+◌, max, List, []}
-use Rattle.std.specs.Prelude.{◌++◌}
+use Rattle.std.specs.Prelude.{◌≡◌, ◌⊎◌, ℕ, suc, ◌≤◌, ◌<◌, ◌+◌, max, Bool, true, false, List, []}
+use Rattle.std.specs.Prelude.{◌∷◌, ◌++◌}
 use Rattle.std.specs.Prelude.{slice_get, unwrap_or, vec_len, vec_capacity}
 use Rattle.std.specs.List.{All}
 use Rattle.pipes_time.specs.Interval.{horizon, closed}
+use Rattle.pipes_tuple.specs.declared.value.Value.{Value}
 use Rattle.pipes_tuple.specs.declared.value.Kind.{Kind}
 use Rattle.pipes_tuple.specs.Bag.{SameBag}
 use Rattle.pipes_stream.specs.declared.message.Message.{Message}
+use Rattle.pipes_stream.specs.declared.message.Message.TheVariants as message
 use Rattle.pipes_stream.specs.Snapshot.{snapshot}
-use Rattle.pipes_stream.specs.Lists.{beat, elements}
+use Rattle.pipes_stream.specs.Lists.{run, start_of_list, beat, elements}
 use Rattle.pipes_stream.specs.Lawful.{Lists}
-use Rattle.pipes_coalesce.specs.Stands.{CoalesceStands}
+use Rattle.pipes_coalesce.specs.Stands.{CoalesceStands, EndsBy, StartsFromSplit}
 use Rattle.pipes_seam.specs.Seams.{opening_of}
 use Rattle.pipes_plan.specs.declared.plan.Plan.{Plan}
 use Rattle.pipes_plan.specs.PlanKinds.{IsTyped}
@@ -19,7 +21,7 @@ use Rattle.pipes_semantics.specs.Written.{results, written_snapshot}
 use Rattle.pipes_box.specs.Shapes.{shape_of}
 use Rattle.pipes_box.specs.Prompt.{lag_of}
 use Rattle.pipes_works.specs.Sources.{Reads, AllReached, AllSourcesEnded}
-use Rattle.pipes_works.specs.Standing.{WorksStand, IsWhole}
+use Rattle.pipes_works.specs.Standing.{WorksStand, IsWhole, MayCome}
 use Rattle.pipes_written.specs.Written.{IsWritten}
 use Rattle.pipes_standing.specs.Calms.{Rows, AnswerAlike, AllEndBy, answer_of, kinds_of}
 use Rattle.pipes_moving.specs.declared.moving.Moving.{Moving}

@@ -1,5 +1,6 @@
 -- What the calls do while a plan is replaced.
-use Rattle.std.specs.Prelude.{◌≡◌, ◌⊎◌, ℕ, ◌≤◌, ◌<◌, max, Bool, cond, nat_le, List, [], ◌++◌}
+use Rattle.std.specs.Prelude.{◌≡◌, ℕ, ◌≤◌, ◌<◌, max, Bool, cond, nat_le, List, [], ◌∷◌, ◌++◌}
+use Rattle.std.specs.Prelude.{◌⊎◌}
 use Rattle.std.specs.List.{All}
 use Rattle.pipes_time.specs.Interval.{closed}
 use Rattle.pipes_tuple.specs.declared.value.Kind.{Kind}
@@ -19,7 +20,7 @@ use Rattle.pipes_standing.specs.declared.standing.Standing.{Standing}
 use Rattle.pipes_standing.specs.Calms.{Rows, AnswerAlike, AllFed, AllEndBy, Calm}
 use Rattle.pipes_moving.specs.declared.moving.Moving.{Moving}
 use Rattle.pipes_moving.specs.declared.next.Next.{Next}
-use Rattle.pipes_moving.specs.Moves.{IsMoving, IsWholeMoving, FedBelow, split_of, first_of}
+use Rattle.pipes_moving.specs.Moves.{IsMoving, FedBelow, split_of, first_of}
 
 -- these entries were made
 abbrev pub MakesEntries : Moving → Moving → List Entry → Type 0
@@ -56,7 +57,7 @@ pub record TakesOld (old new : Moving) (source : ℕ) (m : Message) : Type 0 whe
       → IsMoving old schemas before after rows base below from entries
       → IsMoving new schemas before after rows base (with_message below source m) from entries
   pub passed_over : (MayComeOld old source m → ⊥) → new ≡ old
-  pub tested : MayComeOld old source m ⊎ (MayComeOld old source m → ⊥)
+  pub may : MayComeOld old source m ⊎ (MayComeOld old source m → ⊥)
   pub seam : new.seam ≡ old.seam
 
 -- A message came from a source for the fresh plan.
@@ -68,7 +69,7 @@ pub record TakesFresh (old new : Moving) (source : ℕ) (m : Message) : Type 0 w
       → IsMoving old schemas before after rows base below from entries
       → IsMoving new schemas before after rows base below (with_message from source m) entries
   pub passed_over : (MayComeFresh old source m → ⊥) → new ≡ old
-  pub tested : MayComeFresh old source m ⊎ (MayComeFresh old source m → ⊥)
+  pub may : MayComeFresh old source m ⊎ (MayComeFresh old source m → ⊥)
   pub seam : new.seam ≡ old.seam
 
 -- what the old plan is told of a heartbeat of a source, and what the fresh one
@@ -84,19 +85,16 @@ pub record TakesBeat (old new : Moving) (source at : ℕ) (ended : Bool) : Type 
   pub below : TakesOld old between source (beat_below (split_of old) at)
   pub from : TakesFresh between new source (beat_from (split_of old) at ended)
 
--- These entries were made, which say nothing of results, and nothing else is changed.
-pub record Tells (old new : Moving) (more : List Entry) : Type 0 where
-  pub entries : MakesEntries old new more
-  pub beat : new.output.beat ≡ old.output.beat
-  pub seam : new.seam ≡ old.seam
-  pub failed : new.failed ≡ old.failed
-  pub whole : IsWholeMoving old → IsWholeMoving new
-  pub count : CountsStay old new
+-- The entry was made, which tells of a migration, and nothing else changed.
+pub record Tells (old new : Moving) (e : Entry) : Type 0 where
+  pub entries : MakesEntries old new (e ∷ [])
   pub settled : IsSettled old → IsSettled new
-  pub moves : (schemas : List (List Kind)) (before after : Plan) (rows : Rows) (base : ℕ)
+  pub seam : new.seam ≡ old.seam
+  pub beat : new.output.beat ≡ old.output.beat
+  pub holds : (schemas : List (List Kind)) (before after : Plan) (rows : Rows) (base : ℕ)
       (below from : Lists) (entries : List Entry)
       → IsMoving old schemas before after rows base below from entries
-      → IsMoving new schemas before after rows base below from (entries ++ more)
+      → IsMoving new schemas before after rows base below from (entries ++ e ∷ [])
 
 -- Both plans were worked off; nothing is written yet.
 pub record WorksBothOff (old new : Moving) : Type 0 where

@@ -56,7 +56,8 @@ impl Moving {
     ghost use Rattle.pipes_moving.specs.Moves.{split_of, first_of, IsOverAt, lag_between};
     ghost use Rattle.pipes_moving.specs.Steps.{MakesEntries, IsSettled, TakesOld, TakesFresh};
     ghost use Rattle.pipes_moving.specs.Steps.{WorksBothOff, Settles, nothing_more, Begins};
-    ghost use Rattle.pipes_moving.specs.Steps.{MayComeOld, MayComeFresh, CountsStay, TakesBeat, Tells};
+    ghost use Rattle.pipes_moving.specs.Steps.{MayComeOld, MayComeFresh, CountsStay, TakesBeat};
+    ghost use Rattle.pipes_moving.specs.Steps.{Tells};
 
     /// The plan that is ready begins to take the place of the one at work, at this split. No memory
     /// is taken.
@@ -65,6 +66,8 @@ impl Moving {
         requires ready { IsReady next }
         ensures whole { IsWholeMoving result }
         ensures begins { Begins standing next split result }
+        ensures count { source_count result.old_works ≡ source_count standing.works }
+        ensures count_fresh { source_count result.fresh_works ≡ source_count next.works }
         ensures failed { result.failed ≡ standing.failed }
     {
         let parts = standing.into_parts();
@@ -356,6 +359,28 @@ impl Moving {
         Ok(())
     }
 
+    /// Tells of a migration: the reply to what was asked for, that it is idle, or that it is over.
+    /// Out of memory nothing is told, and each later call answers it.
+    pub fn tell(&mut self, entry: Entry) -> Result<(), Memory>
+        requires whole { IsWholeMoving self.old }
+        requires of_move { TellsMove entry }
+        ensures whole { IsWholeMoving self.new }
+        ensures count { CountsStay self.old self.new }
+        ensures tells { OnOk result (Tells self.old self.new entry) }
+        ensures entries { OnErr result (MakesEntries self.old self.new []) }
+        ensures memory { OnErr result (self.new.failed ≡ true) }
+        ensures stays_failed { OnTrue self.old.failed (IsErr result) }
+    {
+        if self.failed {
+            return Err(Memory);
+        }
+        self.failed = true;
+        self.output.reserve(1)?;
+        self.output.tell(entry);
+        self.failed = false;
+        Ok(())
+    }
+
     /// What is written is final at each heartbeat, and right once the output has ended, for a query
     /// whose plan has the answer of the plan that is replaced: a law, and nothing to run.
     pub fn tells(&self)
@@ -420,6 +445,8 @@ impl Moving {
         requires whole { IsWholeMoving self }
         requires settled { IsSettled self }
         ensures whole { IsWhole result.works }
+        ensures count { source_count result.works ≡ source_count self.fresh_works }
+        ensures beat { result.output.beat ≡ self.output.beat }
         ensures entries { result.output.entries.items ≡ self.output.entries.items }
         ensures failed { result.failed ≡ self.failed }
         ensures calm { (schemas : List (List Kind)) (before after : Tree) (rows : Rows)
@@ -441,31 +468,14 @@ impl Moving {
         })
     }
 
-    /// Makes room for so many more entries.
-    pub fn reserve(&mut self, room: usize) -> Result<(), Memory>
-        ensures tells { Tells self.old self.new [] }
-        ensures room { OnOk result (HasRoom self.new.output room) }
-    {
-        self.output.reserve(room)?;
-        Ok(())
-    }
-
-    /// Tells of a migration: the reply to what was asked for, that it is idle, or that it is over.
-    /// There is room for it.
-    pub fn tell(&mut self, entry: Entry)
-        requires room { HasRoom self.old.output 1 }
-        requires of_move { TellsMove entry }
-        ensures tells { Tells self.old self.new (entry ∷ []) }
-        ensures left { (n : ℕ) → HasRoom self.old.output (n + 1) → HasRoom self.new.output n }
-    {
-        self.output.tell(entry);
-    }
-
     /// The entries that were made and not taken yet.
     pub fn take_entries(&mut self) -> Entries
         ensures taken { result ≡ self.old.output.entries.items }
         ensures none { self.new.output.entries.items ≡ [] }
         ensures whole { IsWholeMoving self.old → IsWholeMoving self.new }
+        ensures count { CountsStay self.old self.new }
+        ensures seam { self.new.seam ≡ self.old.seam }
+        ensures beat { self.new.output.beat ≡ self.old.output.beat }
         ensures settled { IsSettled self.old → IsSettled self.new }
         ensures failed { self.new.failed ≡ self.old.failed }
         ensures moves { (schemas : List (List Kind)) (before after : Tree) (rows : Rows)

@@ -2,7 +2,7 @@
 use Rattle.std.proofs.Common.{◌≡◌, ℕ, ◌≤◌, ◌<◌, List, [], ◌++◌, unwrap_or}
 use Rattle.std.proofs.Common.{Option, refl, sym, ◌∙◌, ap, subst, arith, append_assoc}
 use Rattle.std.proofs.Common.{append-nil}
-use Rattle.std.proofs.Common.{◌∷◌}
+use Rattle.std.proofs.Common.{◌∷◌, inl, inr}
 use Rattle.std.specs.List.{All}
 use Rattle.std.proofs.lemmas.List.Elements.{All-weaker, All-contains}
 use Rattle.pipes_tuple.specs.declared.value.Value.{Value}
@@ -23,8 +23,8 @@ use Rattle.pipes_stream.proofs.Snapshots.{snapshot-append}
 use Rattle.pipes_plan.specs.declared.plan.Plan.{Plan}
 use Rattle.pipes_plan.specs.PlanKinds.{IsTyped}
 use Rattle.pipes_output.specs.declared.entry.Entry.{Entry}
-use Rattle.pipes_output.specs.declared.entry.Entry.TheVariants as entry
 use Rattle.pipes_semantics.specs.Written.{results}
+use Rattle.pipes_output.specs.declared.entry.Entry.TheVariants as entry
 use Rattle.pipes_box.specs.Boxes.{IsStill}
 use Rattle.pipes_works.specs.Sources.{AnswersSources, KeepsUpWithSources, AllReached}
 use Rattle.pipes_works.specs.Sources.{IsCoveredBySource}
@@ -36,7 +36,8 @@ use Rattle.pipes_written.proofs.Splits.{results-append, results-map}
 use Rattle.pipes_written.proofs.Writes.{level-is}
 use Rattle.pipes_standing.specs.declared.standing.Standing.{Standing}
 use Rattle.pipes_standing.specs.Calms.{Rows, AllFed, AllEndBy, answer_of, kinds_of, Calm}
-use Rattle.pipes_standing.specs.Calms.{IsUpToDate, TakesIn, Settles, Tells, nothing_more}
+use Rattle.pipes_standing.specs.Calms.{IsUpToDate, TakesIn, Settles, nothing_more}
+use Rattle.pipes_standing.specs.Calms.{Tells}
 
 -- bags of which both parts are the same
 both-same : (a b c d : List Elem) (t : ℕ) → SameBag (snapshot a t) (snapshot b t) → c ≡ d
@@ -248,6 +249,7 @@ takes-in old new source m puts output may = record {
     shown = calm.shown;
   };
   passed_over = λ not. absurd (not may);
+  may = inl may;
 }
 
 pub passes-over : (s : Standing) (source : ℕ) (m : Message) → (MayCome s.works source m → ⊥)
@@ -258,6 +260,7 @@ passes-over s source m not = record {
   more = [];
   taken_in = λ may. absurd (not may);
   passed_over = λ _. refl;
+  may = inr not;
 }
 
 -- all that came is written
@@ -358,39 +361,31 @@ settles-then old mid new last none s works sent adds written =
       ends = s.ends;
     }
 
--- entries that tell of a migration are no results
-pub tells-none : (e : Entry) → TellsMove e → results (e ∷ []) ≡ []
-tells-none (entry.Result x) tells = absurd tells
-tells-none (entry.Beat h) tells = absurd tells
-tells-none (entry.Accepted number split) tells = refl
-tells-none (entry.Refused command why) tells = refl
-tells-none (entry.Idle number) tells = refl
-tells-none (entry.Over number) tells = refl
-tells-none (entry.Drained inputs output) tells = absurd tells
-tells-none entry.Ended tells = absurd tells
-tells-none entry.Stopped tells = absurd tells
+no-result : (e : Entry) → TellsMove e → results (e ∷ []) ≡ []
+no-result (entry.Result e) t = absurd t
+no-result (entry.Beat h) t = absurd t
+no-result (entry.Accepted number split) t = refl
+no-result (entry.Refused command why) t = refl
+no-result (entry.Idle number) t = refl
+no-result (entry.Over number) t = refl
+no-result (entry.Drained inputs output) t = absurd t
+no-result entry.Ended t = absurd t
+no-result entry.Stopped t = absurd t
 
-pub tells-more : (old new : Standing) (more : List Entry) → new.works ≡ old.works
-    → new.sent ≡ old.sent → new.failed ≡ old.failed → Adds old.output new.output more
-    → results more ≡ []
+-- an entry that tells of a migration was made, where room was made before
+pub tells : (old new : Standing) (mid : Output) (e : Entry) → new.works ≡ old.works
+    → new.sent ≡ old.sent → TellsMove e → Adds old.output mid [] → Adds mid new.output (e ∷ [])
     → ((kinds : List Kind) (answer : Answers) (entries : List Entry)
-    → IsWritten kinds answer old.output.beat entries
-    → IsWritten kinds answer new.output.beat (entries ++ more))
-    → Tells old new more
-tells-more old new more works sent failed adds none written = record {
-  entries = adds.entries;
-  beat = adds.beat;
-  works = works;
-  sent = sent;
-  failed = failed;
-  calm = λ schemas plan rows base by_source got entries calm.
-      calm-more schemas plan rows base by_source got entries more old new works sent adds.beat none
-      (written (kinds_of schemas plan) (answer_of plan rows) entries) calm;
+    → IsWritten kinds answer mid.beat entries
+    → IsWritten kinds answer new.output.beat (entries ++ e ∷ []))
+    → Tells old new e
+tells old new mid e works sent of_move first adds written = record {
+  entries = adds.entries ∙ ap (λ (l : List Entry). l ++ e ∷ [])
+      (first.entries ∙ append-nil old.output.entries.items);
+  settled = λ s. record { still = rw works s.still; nothing_sent = rw sent s.nothing_sent };
+  beat = adds.beat ∙ first.beat;
+  holds = λ schemas plan rows base by_source got entries calm.
+      calm-more schemas plan rows base by_source got entries (e ∷ []) old new works sent
+      (adds.beat ∙ first.beat) (no-result e of_move)
+      (λ w. written (kinds_of schemas plan) (answer_of plan rows) entries (rw first.beat w)) calm;
 }
-
--- no entry, and the output has come no further
-pub written-still : (old new : Output) → Adds old new [] → (kinds : List Kind) (answer : Answers)
-    (entries : List Entry) → IsWritten kinds answer old.beat entries
-    → IsWritten kinds answer new.beat (entries ++ [])
-written-still old new adds kinds answer entries w =
-    subst (IsWritten kinds answer new.beat) (sym (append-nil entries)) (rw adds.beat w)

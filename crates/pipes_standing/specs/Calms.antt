@@ -1,5 +1,6 @@
 -- A standing query: a plan at work over its sources, and what was written of its answer.
 use Rattle.std.specs.Prelude.{◌≡◌, ℕ, ◌≤◌, ◌<◌, List, [], ◌++◌, slice_get, unwrap_or}
+use Rattle.std.specs.Prelude.{◌⊎◌, ◌∷◌}
 use Rattle.std.specs.List.{All}
 use Rattle.pipes_time.specs.Interval.{horizon, closed}
 use Rattle.pipes_tuple.specs.declared.value.Value.{Value}
@@ -87,6 +88,17 @@ pub record TakesIn (old new : Standing) (source : ℕ) (m : Message) : Type 0 wh
       → Calm old schemas plan rows base by_source got entries
       → Calm new schemas plan rows base (with_message by_source source m) (got ++ more) entries
   pub passed_over : (MayCome old.works source m → ⊥) → new ≡ old
+  pub may : MayCome old.works source m ⊎ (MayCome old.works source m → ⊥)
+
+-- The entry was made, which tells of a migration, and nothing else changed.
+pub record Tells (old new : Standing) (e : Entry) : Type 0 where
+  pub entries : MakesEntries old new (e ∷ [])
+  pub settled : IsSettled old → IsSettled new
+  pub beat : new.output.beat ≡ old.output.beat
+  pub holds : (schemas : List (List Kind)) (plan : Plan) (rows : Rows) (base : ℕ)
+      (by_source : Lists) (got : List Message) (entries : List Entry)
+      → Calm old schemas plan rows base by_source got entries
+      → Calm new schemas plan rows base by_source got (entries ++ e ∷ [])
 
 -- What came to the top was written, in order, and then these entries.
 pub record Settles (old new : Standing) (last : ℕ → List Entry) : Type 0 where
@@ -111,18 +123,6 @@ pub record Settles (old new : Standing) (last : ℕ → List Entry) : Type 0 whe
 -- no entry more
 abbrev pub nothing_more : ℕ → List Entry
 nothing_more output = []
-
--- These entries were made, which say nothing of results, and nothing else is changed.
-pub record Tells (old new : Standing) (more : List Entry) : Type 0 where
-  pub entries : MakesEntries old new more
-  pub beat : new.output.beat ≡ old.output.beat
-  pub works : new.works ≡ old.works
-  pub sent : new.sent ≡ old.sent
-  pub failed : new.failed ≡ old.failed
-  pub calm : (schemas : List (List Kind)) (plan : Plan) (rows : Rows) (base : ℕ)
-      (by_source : Lists) (got : List Message) (entries : List Entry)
-      → Calm old schemas plan rows base by_source got entries
-      → Calm new schemas plan rows base by_source got (entries ++ more)
 
 -- The output has come as far as the sources: it is kept back by no more than the elements that
 -- reach there, and not at all where no operator lags; and to the end, once all sources have ended.

@@ -1,5 +1,5 @@
 // A query of which one plan is at work.
-ghost use Rattle.std.specs.Prelude.{◌≡◌, ◌≤◌, ◌<◌, ◌^◌, ◌-◌, ◌+◌, [], ◌∷◌, ℕ, List, min, true, false};
+ghost use Rattle.std.specs.Prelude.{◌≡◌, ◌≤◌, ◌<◌, ◌^◌, ◌-◌, [], ◌∷◌, ℕ, List, min, true, false};
 ghost use Rattle.std.specs.Prelude.{IfOk, OnOk, OnErr, IsErr, ◌↔◌, IsTrue};
 ghost use Rattle.std.specs.Bool.{OnTrue};
 ghost use Rattle.pipes_time.specs.Interval.{closed};
@@ -232,6 +232,48 @@ impl Standing {
         Ok(())
     }
 
+    /// So it is with the heartbeat of the inputs as the caller knows it.
+    pub fn drain_at<R: Threads + Sync, G: Gate>(
+        &mut self,
+        rt: &R,
+        gate: &G,
+        inputs: u64,
+    ) -> Result<(), Memory>
+        requires { IsWhole self.old.works }
+        ensures whole { IsWhole self.new.works }
+        ensures count { source_count self.new.works ≡ source_count self.old.works }
+        ensures settles { OnOk result (Settles self.old self.new (drained inputs)) }
+        ensures entries { OnErr result (MakesEntries self.old self.new []) }
+        ensures memory { OnErr result (self.new.failed ≡ true) }
+        ensures stays_failed { OnTrue self.old.failed (IsErr result) }
+    {
+        self.settle_for(rt, gate, 2)?;
+        self.output.drain(inputs);
+        Ok(())
+    }
+
+    /// Tells of a migration: the reply to what was asked for, that it is idle, or that it is over.
+    /// Out of memory nothing is told, and each later call answers it.
+    pub fn tell(&mut self, entry: Entry) -> Result<(), Memory>
+        requires whole { IsWhole self.old.works }
+        requires of_move { TellsMove entry }
+        ensures whole { IsWhole self.new.works }
+        ensures count { source_count self.new.works ≡ source_count self.old.works }
+        ensures tells { OnOk result (Tells self.old self.new entry) }
+        ensures entries { OnErr result (MakesEntries self.old self.new []) }
+        ensures memory { OnErr result (self.new.failed ≡ true) }
+        ensures stays_failed { OnTrue self.old.failed (IsErr result) }
+    {
+        if self.failed {
+            return Err(Memory);
+        }
+        self.failed = true;
+        self.output.reserve(1)?;
+        self.output.tell(entry);
+        self.failed = false;
+        Ok(())
+    }
+
     /// Settles, and then tells that the run has ended, or was stopped. Out of memory nothing is
     /// written, and each later call answers it.
     pub fn finish<R: Threads + Sync, G: Gate>(
@@ -252,26 +294,6 @@ impl Standing {
         self.settle_for(rt, gate, 1)?;
         self.output.end(stopped);
         Ok(())
-    }
-
-    /// Makes room for so many more entries.
-    pub fn reserve(&mut self, room: usize) -> Result<(), Memory>
-        ensures tells { Tells self.old self.new [] }
-        ensures room { OnOk result (HasRoom self.new.output room) }
-    {
-        self.output.reserve(room)?;
-        Ok(())
-    }
-
-    /// Tells of a migration: the reply to what was asked for, that it is idle, or that it is over.
-    /// There is room for it.
-    pub fn tell(&mut self, entry: Entry)
-        requires room { HasRoom self.old.output 1 }
-        requires of_move { TellsMove entry }
-        ensures tells { Tells self.old self.new (entry ∷ []) }
-        ensures left { (n : ℕ) → HasRoom self.old.output (n + 1) → HasRoom self.new.output n }
-    {
-        self.output.tell(entry);
     }
 
     /// Once settled, the output has come as far as the sources allow, and to the end after the end

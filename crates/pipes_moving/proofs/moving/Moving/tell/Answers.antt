@@ -1,10 +1,9 @@
-use Rattle.std.proofs.Common.{[], ◌∷◌, refl}
-use Rattle.pipes_standing.proofs.Calming.{tells-none}
-use Rattle.pipes_moving.proofs.Settling.{tells-more}
+use Rattle.std.proofs.Common.{refl}
+use Rattle.pipes_moving.proofs.Settling.{tells}
 use Rattle.pipes_moving.proofs.moving.Moving.tell.Goals as goal
 
 pub returns-clause-tells : goal.returns-clause-tells
 returns-clause-tells c =
-    tells-more c.args.self.now _ (c.args.entry ∷ [])
-    (record { old_works = refl; fresh_works = refl; olds = refl; news = refl; seam = refl }) refl
-    c.tell.ensures.adds (tells-none c.args.entry c.requires.of_move) c.tell.ensures.written
+    tells c.args.self.now _ c.reserve.new.self c.args.entry
+    (record { old_works = refl; fresh_works = refl; olds = refl; news = refl; seam = refl })
+    c.requires.of_move c.in_ok-reserve.ensures.adds c.tell.ensures.adds c.tell.ensures.written

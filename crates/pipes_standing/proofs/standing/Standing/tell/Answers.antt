@@ -1,8 +1,8 @@
-use Rattle.std.proofs.Common.{[], ◌∷◌, refl}
-use Rattle.pipes_standing.proofs.Calming.{tells-none, tells-more}
+use Rattle.std.proofs.Common.{refl}
+use Rattle.pipes_standing.proofs.Calming.{tells}
 use Rattle.pipes_standing.proofs.standing.Standing.tell.Goals as goal
 
 pub returns-clause-tells : goal.returns-clause-tells
 returns-clause-tells c =
-    tells-more c.args.self.now _ (c.args.entry ∷ []) refl refl refl c.tell.ensures.adds
-    (tells-none c.args.entry c.requires.of_move) c.tell.ensures.written
+    tells c.args.self.now _ c.reserve.new.self c.args.entry refl refl c.requires.of_move
+    c.in_ok-reserve.ensures.adds c.tell.ensures.adds c.tell.ensures.written
