@@ -36,12 +36,12 @@ module _ (init now : Option (List ℕ)) (w : Waiting) (text : Vec ℕ Global)
       subst (λ (x : Waiting). WrotePart init now (form_waiting x) entries h) (sym is) part
 
 module _ (init now : Option (List ℕ)) (w : Waiting) (text : Vec ℕ Global) (entries : List Entry)
-    where
-  pub all-stream : w ≡ Stream text → Appends init now (lines entries)
-      → WroteAll init now (form_waiting w) entries
-  all-stream is all = subst (λ (x : Waiting). WroteAll init now (form_waiting x) entries) (sym is) all
+  where
+    pub all-stream : w ≡ Stream text → Appends init now (lines entries)
+        → WroteAll init now (form_waiting w) entries
+    all-stream is all = subst (λ (x : Waiting). WroteAll init now (form_waiting x) entries) (sym is) all
 
-  pub all-normal : (settled : Settled) → w ≡ Normal settled text
-      → WroteText init now (results entries) → WroteAll init now (form_waiting w) entries
-  all-normal settled is all =
-      subst (λ (x : Waiting). WroteAll init now (form_waiting x) entries) (sym is) all
+    pub all-normal : (settled : Settled) → w ≡ Normal settled text
+        → WroteText init now (results entries) → WroteAll init now (form_waiting w) entries
+    all-normal settled is all =
+        subst (λ (x : Waiting). WroteAll init now (form_waiting x) entries) (sym is) all
