@@ -7,3 +7,4 @@ pub mod Taking
 pub mod Job
 pub mod Writing
 pub mod Course
+pub mod Given
