@@ -5,7 +5,7 @@ ghost use Rattle.std.specs.Prelude.{◌≡◌, ◌≤◌, ◌<◌, ◌++◌, Som
 ghost use Rattle.std.specs.Prelude.{length};
 ghost use Rattle.std.specs.Io.KnownBytes.{Appends};
 ghost use Rattle.pipes_edge.specs.Causes.{Rose, HasCause};
-ghost use Rattle.pipes_buffer.specs.Pieces.{AppendsPrefix, PassesOn, ReadsUpTo};
+ghost use Rattle.pipes_buffer.specs.Pieces.{AppendsPrefix, AppendsShort, PassesOn, ReadsUpTo};
 ghost use Rattle.pipes_buffer.specs.declared.IoFault.TheVariants as faults;
 
 use pipes_edge::{Failed, Sink, Source};
@@ -72,6 +72,7 @@ pub fn read_up_to<S: Source>(
 pub fn write_all<K: Sink>(out: &mut K, bytes: &[u8]) -> Result<(), Failed>
     ensures ok { OnOk result (Appends (K.written out.old) (K.written out.new) bytes.now) }
     ensures err { OnErr result (AppendsPrefix (K.written out.old) (K.written out.new) bytes.now) }
+    ensures short { OnErr result (AppendsShort (K.written out.old) (K.written out.new) bytes.now) }
     ensures cause { HasCause (K.faults out.old) (K.faults out.new) result }
 {
     let mut place = 0;
@@ -87,6 +88,8 @@ pub fn write_if_full<K: Sink>(out: &mut K, text: &mut Vec<u8>) -> Result<(), Fai
         text.new.items) }
     ensures less { OnOk result (length text.new.items < BUFFER) }
     ensures prefix { OnErr result (AppendsPrefix (K.written out.old) (K.written out.new)
+        text.old.items) }
+    ensures short { OnErr result (AppendsShort (K.written out.old) (K.written out.new)
         text.old.items) }
     ensures cause { HasCause (K.faults out.old) (K.faults out.new) result }
 {
