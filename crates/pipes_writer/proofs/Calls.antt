@@ -1,7 +1,6 @@
 -- What the calls of a writer leave written.
-use Rattle.std.proofs.Common.{◌≡◌, ℕ, ◌≤◌, List, [], ◌∷◌, ◌++◌, take, drop, Option, refl, sym, ◌∙◌}
-use Rattle.std.proofs.Common.{ap, subst, arith}
-use Rattle.std.specs.List.{All}
+use Rattle.std.proofs.Common.{◌≡◌, ℕ, ◌≤◌, List, [], ◌∷◌, ◌++◌, take, Option, refl, sym}
+use Rattle.std.proofs.Common.{subst}
 use Rattle.std.proofs.lemmas.List.{append-nil}
 use Rattle.std.proofs.lemmas.List.Elements.{All-head, All-nil, All-cons}
 use Rattle.std.specs.Io.KnownBytes.{Appends}
@@ -15,7 +14,7 @@ use Rattle.pipes_buffer.specs.Pieces.{AppendsPrefix, PassesOn}
 use Rattle.pipes_buffer.proofs.Passing.{passed-grown, all-passed, prefix-last}
 use Rattle.pipes_settled.specs.declared.settled.Settled.{Settled}
 use Rattle.pipes_settled.specs.Certainty.{AreIntervals, StartFrom, IsCertain}
-use Rattle.pipes_settled.specs.Standing.{Stands, Adds, Advances, Finishes, Gives}
+use Rattle.pipes_settled.specs.Standing.{Stands, Advances, Finishes}
 use Rattle.pipes_settled.proofs.Calls.{call-laws}
 use Rattle.pipes_writer.specs.Wrote.{GaveOf, WroteCertain, WroteText, AddsResult, ComesFrom}
 use Rattle.pipes_writer.proofs.Certain.{certain-part, certain-taken, certain-later, certain-more}

@@ -6,7 +6,7 @@ use Rattle.std.specs.Io.KnownBytes.{Appends}
 use Rattle.pipes_output.specs.declared.entry.Entry.{Entry}
 use Rattle.pipes_output.specs.Lines.{lines}
 use Rattle.pipes_semantics.specs.Written.{results}
-use Rattle.pipes_buffer.specs.Pieces.{AppendsPrefix, PassesOn}
+use Rattle.pipes_buffer.specs.Pieces.{AppendsShort, PassesOn}
 use Rattle.pipes_settled.specs.declared.settled.Settled.{Settled}
 use Rattle.pipes_writer.specs.declared.writer.Waiting.{Waiting}
 use Rattle.pipes_writer.specs.declared.writer.Waiting.TheVariants.{Stream, Normal}
@@ -25,10 +25,10 @@ module _ (init now : Option (List ℕ)) (w : Waiting) (text : Vec ℕ Global)
   normal-kept settled is wrote =
       subst (λ (x : Waiting). WroteWaiting init now x entries h) is wrote
 
-  pub part-stream : w ≡ Stream text → AppendsPrefix init now (lines entries)
+  pub part-stream : w ≡ Stream text → AppendsShort init now (lines entries)
       → WrotePart init now (form_waiting w) entries h
-  part-stream is prefix =
-      subst (λ (x : Waiting). WrotePart init now (form_waiting x) entries h) (sym is) prefix
+  part-stream is short =
+      subst (λ (x : Waiting). WrotePart init now (form_waiting x) entries h) (sym is) short
 
   pub part-normal : (settled : Settled) → w ≡ Normal settled text
       → WroteCertain init now (results entries) h → WrotePart init now (form_waiting w) entries h

@@ -5,7 +5,7 @@ use Rattle.std.specs.Io.KnownBytes.{Appends}
 use Rattle.pipes_time.specs.Interval.{closed, IsInterval}
 use Rattle.pipes_stream.specs.declared.Elem.{Elem}
 use Rattle.pipes_stream.specs.Snapshot.{snapshot}
-use Rattle.pipes_buffer.specs.Pieces.{AppendsPrefix, PassesOn}
+use Rattle.pipes_buffer.specs.Pieces.{AppendsShort, PassesOn}
 use Rattle.pipes_output.specs.declared.entry.Entry.{Entry}
 use Rattle.pipes_output.specs.declared.entry.Entry.TheVariants as entry
 use Rattle.pipes_output.specs.declared.form.Form.{Form}
@@ -54,9 +54,10 @@ pub record WroteCertain (init now : Option (List ℕ)) (elems : List Elem) (h : 
   pub appended : Appends init now bytes
   pub certain : IsCertain elems h bytes
 
--- a first part of the lines of these entries, or of the normal text of their results
+-- a first part of the lines of these entries, but not all of them, or a first part of the normal
+-- text of their results
 abbrev pub WrotePart : Option (List ℕ) → Option (List ℕ) → Form → List Entry → ℕ → Type 0
-WrotePart init now form.Stream entries h = AppendsPrefix init now (lines entries)
+WrotePart init now form.Stream entries h = AppendsShort init now (lines entries)
 WrotePart init now form.Normal entries h = WroteCertain init now (results entries) h
 
 -- the lines of these entries, or the normal text of their results

@@ -2,11 +2,12 @@
 ghost use Rattle.std.specs.Prelude.{◌≡◌, ◌≤◌, ◌++◌, [], List, ℕ, Option, Err, OnOk, OnErr, IsErrOf};
 ghost use Rattle.std.specs.Io.KnownBytes.{Appends};
 ghost use Rattle.pipes_edge.specs.Causes.{Rose};
-ghost use Rattle.pipes_buffer.specs.Pieces.{AppendsPrefix, PassesOn};
-ghost use Rattle.pipes_output.specs.Lines.{line};
+ghost use Rattle.pipes_buffer.specs.Pieces.{AppendsPrefix, AppendsShort, PassesOn};
+ghost use Rattle.pipes_output.specs.Lines.{line, IsEntry};
 ghost use Rattle.pipes_writer.specs.Wrote.{AddsResult};
 ghost use Rattle.pipes_buffer.specs.declared.IoFault.TheVariants as fault;
 
+use crate::typed::look_at;
 use pipes_buffer::{IoFault, write_all, write_if_full};
 use pipes_edge::Sink;
 use pipes_output::{Entry, Form};
@@ -50,6 +51,7 @@ impl Writer {
     /// One entry more. In the stream form its line waits, and is written with others once a buffer
     /// is full.
     pub fn put<K: Sink>(&mut self, entry: Entry, out: &mut K) -> Result<(), IoFault>
+        ensures typed { IsEntry entry }
         ensures form { form_of self.new ≡ form_of self.old }
         ensures ok { OnOk result
             (PutsOne (K.written out.old) (K.written out.new) self.old self.new entry) }
@@ -58,6 +60,7 @@ impl Writer {
         ensures later { K.faults out.old ≤ K.faults out.new }
         ensures cause { IsErrOf result IoFault.Failed → Rose (K.faults out.old) (K.faults out.new) }
     {
+        look_at(&entry);
         match &mut self.waiting {
             Waiting::Stream(text) => put_line(text, &entry, out),
             Waiting::Normal(settled, _) => add_result(settled, entry),
@@ -103,7 +106,7 @@ impl Writer {
 fn put_line<K: Sink>(text: &mut Vec<u8>, entry: &Entry, out: &mut K) -> Result<(), IoFault>
     ensures ok { OnOk result (PassesOn (K.written out.old) (K.written out.new)
         (text.old.items ++ line entry.now) text.new.items) }
-    ensures prefix { OnErr result (AppendsPrefix (K.written out.old) (K.written out.new)
+    ensures short { OnErr result (AppendsShort (K.written out.old) (K.written out.new)
         (text.old.items ++ line entry.now)) }
     ensures later { K.faults out.old ≤ K.faults out.new }
     ensures cause { IsErrOf result IoFault.Failed → Rose (K.faults out.old) (K.faults out.new) }
@@ -129,6 +132,8 @@ fn flush<K: Sink>(text: &mut Vec<u8>, out: &mut K) -> Result<(), IoFault>
     ensures ok { OnOk result (Appends (K.written out.old) (K.written out.new) text.old.items) }
     ensures none { OnOk result (text.new.items ≡ []) }
     ensures prefix { OnErr result (AppendsPrefix (K.written out.old) (K.written out.new)
+        text.old.items) }
+    ensures short { OnErr result (AppendsShort (K.written out.old) (K.written out.new)
         text.old.items) }
     ensures later { K.faults out.old ≤ K.faults out.new }
     ensures cause { IsErrOf result IoFault.Failed → Rose (K.faults out.old) (K.faults out.new) }

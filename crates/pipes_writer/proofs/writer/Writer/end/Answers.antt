@@ -1,8 +1,9 @@
 use Rattle.std.proofs.lemmas.Result.{on_err_weaker}
 use Rattle.pipes_buffer.proofs.Appended.{map_ok, on_err}
 use Rattle.pipes_time.specs.Interval.{closed}
-use Rattle.pipes_buffer.proofs.Passing.{all-passed, prefix-last}
+use Rattle.pipes_buffer.proofs.Passing.{all-passed}
 use Rattle.pipes_semantics.specs.Written.{results}
+use Rattle.pipes_writer.proofs.Lines.{short-last}
 use Rattle.pipes_writer.proofs.Forms.{stream-kept, normal-kept, part-stream, part-normal}
 use Rattle.pipes_writer.proofs.Forms.{all-stream, all-normal}
 use Rattle.pipes_writer.proofs.Calls.{normal-end, normal-end-stops, normal-end-cut}
@@ -24,11 +25,11 @@ returns-in-Stream-clause-ok g c = map_ok c.flush.result
 
 pub returns-in-Stream-clause-err : goal.returns-in-Stream-clause-err
 returns-in-Stream-clause-err g c = on_err_weaker c.flush.result
-    (λ prefix init entries h wrote.
+    (λ short init entries h wrote.
     part-stream init _ _ c.in-Stream.text entries closed c.in-Stream.is
-    (prefix-last init _ _ _ c.in-Stream.text.items
-    (stream-kept init _ _ c.in-Stream.text entries h c.in-Stream.is wrote) prefix))
-    c.flush.ensures.prefix
+    (short-last init _ _ _ c.in-Stream.text.items
+    (stream-kept init _ _ c.in-Stream.text entries h c.in-Stream.is wrote) short))
+    c.flush.ensures.short
 
 pub returns-in_ok-finish-in-Normal-clause-ok : goal.returns-in_ok-finish-in-Normal-clause-ok
 returns-in_ok-finish-in-Normal-clause-ok g c = map_ok c.flush-in-Normal.result

@@ -1,8 +1,7 @@
 use Rattle.std.proofs.lemmas.Result.{on_err_weaker}
-use Rattle.pipes_buffer.proofs.Appended.{map_ok, on_err}
-use Rattle.pipes_buffer.proofs.Passing.{prefix-last}
+use Rattle.pipes_buffer.proofs.Appended.{on_err}
 use Rattle.pipes_semantics.specs.Written.{results}
-use Rattle.pipes_writer.proofs.Lines.{all-out, both-ok}
+use Rattle.pipes_writer.proofs.Lines.{all-out, both-ok, short-last}
 use Rattle.pipes_writer.proofs.Forms.{stream-kept, normal-kept, part-stream, part-normal}
 use Rattle.pipes_writer.proofs.Calls.{normal-pass, normal-pass-stops, normal-pass-cut}
 use Rattle.pipes_writer.proofs.writer.Writer.pass.Goals as goal
@@ -24,11 +23,11 @@ returns-in-Stream-clause-ok g c = both-ok c.flush.result
 
 pub returns-in-Stream-clause-err : goal.returns-in-Stream-clause-err
 returns-in-Stream-clause-err g c = on_err_weaker c.flush.result
-    (λ prefix init entries from wrote low high.
+    (λ short init entries from wrote low high.
     part-stream init _ _ c.in-Stream.text entries c.args.h c.in-Stream.is
-    (prefix-last init _ _ _ c.in-Stream.text.items
-    (stream-kept init _ _ c.in-Stream.text entries from c.in-Stream.is wrote) prefix))
-    c.flush.ensures.prefix
+    (short-last init _ _ _ c.in-Stream.text.items
+    (stream-kept init _ _ c.in-Stream.text entries from c.in-Stream.is wrote) short))
+    c.flush.ensures.short
 
 pub returns-in_ok-advance-in-Normal-clause-ok : goal.returns-in_ok-advance-in-Normal-clause-ok
 returns-in_ok-advance-in-Normal-clause-ok g c = both-ok c.flush-in-Normal.result

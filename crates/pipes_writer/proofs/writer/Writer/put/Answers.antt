@@ -14,11 +14,11 @@ returns-in-Stream-clause-ok g c = map_ok c.put_line.result
 
 pub returns-in-Stream-clause-err : goal.returns-in-Stream-clause-err
 returns-in-Stream-clause-err g c = on_err_weaker c.put_line.result
-    (λ prefix init entries h wrote comes.
+    (λ short init entries h wrote comes.
     part-stream init _ _ c.in-Stream.text (entries ++ c.args.entry ∷ []) h c.in-Stream.is
     (line-cut init _ _ entries c.args.entry c.in-Stream.text.items
-    (stream-kept init _ _ c.in-Stream.text entries h c.in-Stream.is wrote) prefix))
-    c.put_line.ensures.prefix
+    (stream-kept init _ _ c.in-Stream.text entries h c.in-Stream.is wrote) short))
+    c.put_line.ensures.short
 
 pub returns-in-Normal-clause-ok : goal.returns-in-Normal-clause-ok
 returns-in-Normal-clause-ok g c = map_ok c.add_result.result
