@@ -26,4 +26,11 @@ impl Entries {
     {
         self.list.as_slice()
     }
+
+    /// The entries, in order, each to be handed on.
+    pub fn into_vec(self) -> Vec<Entry>
+        ensures { result.items ≡ self }
+    {
+        self.list
+    }
 }
