@@ -1,25 +1,24 @@
 -- What the plans at work were given of a source's list, after one message more.
-use Rattle.std.proofs.Common.{◌≡◌, ℕ, ◌+◌, ◌-◌, ◌≤◌, ◌<◌, max, Bool, true, false, List, [], ◌∷◌, ◌++◌}
+use Rattle.std.proofs.Common.{◌≡◌, ℕ, ◌-◌, ◌≤◌, Bool, true, false, List, [], ◌∷◌, ◌++◌}
 use Rattle.std.proofs.Common.{nat_lt, if◌then◌else◌}
-use Rattle.std.proofs.Common.{Option, Some, None, refl, sym, ap, subst, ◌∙◌, arith, inl, inr, append-nil}
+use Rattle.std.proofs.Common.{Option, Some, None, refl, sym, ap, subst, ◌∙◌, arith, inl, inr}
+use Rattle.std.proofs.Common.{append-nil}
 use Rattle.std.specs.List.{All}
 use Rattle.std.proofs.lemmas.Bool.Decides.{eqb_tells}
 use Rattle.std.proofs.lemmas.List.Elements.{All-nil, All-cons, All-append, All-same, All-weaker}
 use Rattle.std.proofs.lemmas.List.Elements.{Contains-append_left, Contains-append_right}
-use Rattle.pipes_time.specs.Interval.{closed, IsInterval, Holds}
-use Rattle.pipes_tuple.specs.declared.value.Kind.{Kind}
+use Rattle.pipes_time.specs.Interval.{closed, IsInterval}
 use Rattle.pipes_stream.specs.declared.Elem.{Elem}
 use Rattle.pipes_stream.specs.declared.message.Message.{Message}
 use Rattle.pipes_stream.specs.declared.message.Message.TheVariants as message
 use Rattle.pipes_stream.specs.Progress.{Progress}
-use Rattle.pipes_stream.specs.Lists.{CanFollow, after, run, start_of_list, Valid, ValidFrom, beat}
+use Rattle.pipes_stream.specs.Lists.{CanFollow, after, run, start_of_list, Valid, beat}
 use Rattle.pipes_stream.specs.Lists.{elements}
-use Rattle.pipes_stream.specs.Lawful.{Lists, with_message, MessageFits, IsCovered}
-use Rattle.pipes_stream.proofs.Messages.{run-push, run-rises, valid-push, valid-suffix}
+use Rattle.pipes_stream.specs.Lawful.{Lists, with_message, IsCovered}
+use Rattle.pipes_stream.proofs.Messages.{run-push, run-rises, valid-push}
 use Rattle.pipes_stream.proofs.Messages.{elements-append, beat-closed}
 use Rattle.pipes_stream.proofs.Ports.{covered-itself}
 use Rattle.pipes_split.specs.Cutting.{IsCut}
-use Rattle.pipes_coalesce.specs.Stands.{EndsBy, StartsFromSplit}
 use Rattle.pipes_node.proofs.NodeSteps.{with-same, with-other}
 use Rattle.pipes_halves.specs.Halves.{IsSoFar, IsHalved, ArePart, low_part, high_part, grown}
 use Rattle.pipes_halves.proofs.Sides.{same-push, grown-going, grown-over}
@@ -129,7 +128,8 @@ part-from e b split first part cut =
 
 covers-one : (e a : Elem) → e.span.start ≤ a.span.start → a.span.end ≤ e.span.end
     → All (IsCovered (e ∷ [])) (a ∷ [])
-covers-one e a from onto = All-cons (IsCovered (e ∷ [])) a [] (e, (0, omega arith, refl), from, onto)
+covers-one e a from onto =
+    All-cons (IsCovered (e ∷ [])) a [] (e, (0, omega arith, refl), from, onto)
     (All-nil (IsCovered (e ∷ [])))
 
 -- what is given of a message is a part of it

@@ -1,7 +1,11 @@
+pub mod Outcomes
 pub mod Given
+pub mod Watching
 pub mod Taking
 pub mod Settling
-pub mod Watching
-pub mod Outcomes
-pub mod Starting
 pub mod Closing
+pub mod Starting
+pub mod Reading
+pub mod Reaching
+pub mod Staying
+pub mod Opening

@@ -1,15 +1,15 @@
 -- A message came from a source, to one plan at work or to two.
-use Rattle.std.proofs.Common.{◌≡◌, ℕ, ◌≤◌, ◌<◌, max, Bool, true, false, List, [], ◌∷◌, ◌++◌, length, get_or}
-use Rattle.std.proofs.Common.{slice_get, unwrap_or, zero, suc, refl, sym, ap, subst, ◌∙◌, arith, inl, inr}
-use Rattle.std.proofs.Common.{map, append-nil, nat_lt, if◌then◌else◌, Option, Some, None}
+use Rattle.std.proofs.Common.{◌≡◌, ℕ, ◌≤◌, ◌<◌, max, Bool, true, false, List, [], ◌∷◌, ◌++◌}
+use Rattle.std.proofs.Common.{length, get_or}
+use Rattle.std.proofs.Common.{slice_get, unwrap_or, refl, sym, ap, subst, ◌∙◌, arith, inl, inr}
+use Rattle.std.proofs.Common.{append-nil, nat_lt, if◌then◌else◌, Option, Some, None}
 use Rattle.std.specs.List.{All}
-use Rattle.pipes_time.specs.Interval.{closed}
 use Rattle.pipes_tuple.specs.declared.value.Kind.{Kind}
 use Rattle.pipes_stream.specs.declared.Elem.{Elem}
 use Rattle.pipes_stream.specs.declared.message.Message.{Message}
 use Rattle.pipes_stream.specs.declared.message.Message.TheVariants as message
 use Rattle.pipes_stream.specs.Progress.{Progress}
-use Rattle.pipes_stream.specs.Lists.{CanFollow, after, run, start_of_list, Valid, beat, elements}
+use Rattle.pipes_stream.specs.Lists.{CanFollow, run, start_of_list, Valid, elements}
 use Rattle.pipes_stream.specs.Lawful.{Lists, with_message, MessageFits}
 use Rattle.pipes_stream.proofs.Messages.{valid-suffix, elements-append}
 use Rattle.pipes_stream.proofs.Ports.{All-parts}
@@ -18,9 +18,7 @@ use Rattle.pipes_coalesce.specs.Stands.{EndsBy, StartsFromSplit}
 use Rattle.pipes_seam.specs.declared.seam.Seam.{Seam}
 use Rattle.pipes_plan.specs.declared.plan.Plan.{Plan}
 use Rattle.pipes_output.specs.declared.entry.Entry.{Entry}
-use Rattle.pipes_semantics.specs.Written.{results}
 use Rattle.pipes_node.proofs.NodeSteps.{with-same, with-other}
-use Rattle.pipes_works.specs.declared.input.Input.{Input}
 use Rattle.pipes_works.specs.declared.works.Works.{Works}
 use Rattle.pipes_works.specs.Sources.{Reads}
 use Rattle.pipes_works.specs.Standing.{WorksStand, MayCome, source_count}
@@ -31,8 +29,8 @@ use Rattle.pipes_standing.specs.declared.standing.Standing.{Standing}
 use Rattle.pipes_standing.specs.Calms.{Rows, TakesIn}
 use Rattle.pipes_moving.specs.declared.moving.Moving.{Moving as Between}
 use Rattle.pipes_moving.specs.Moves.{IsMoving, split_of, first_of}
-use Rattle.pipes_moving.specs.Steps.{TakesOld, TakesFresh, MayComeOld, MayComeFresh}
-use Rattle.pipes_live.specs.declared.state.State.{State}
+use Rattle.pipes_moving.specs.Steps.{TakesOld, MayComeOld, MayComeFresh}
+use Rattle.pipes_moving.proofs.Beginning.{count-is}
 use Rattle.pipes_live.specs.declared.state.State.TheVariants as state
 use Rattle.pipes_live.specs.Lives.{IsGiven, AreGiven, ResultsEnd, ServesAlone, ServesMoving, IsNext}
 use Rattle.pipes_live.specs.Deeds.{GivesBelow, GivesFrom, GivesBoth, TakesNext}
@@ -64,8 +62,8 @@ ends-fewer schemas plan by_source entries source m ends instant all =
 
 -- ---- one plan
 
-pub alone-takes : (old new : Standing) (schemas : List (List Kind)) (query plan : Plan) (rows : Rows)
-    (split : ℕ) (by_source : Lists) (entries : List Entry) (source : ℕ) (m : Message)
+pub alone-takes : (old new : Standing) (schemas : List (List Kind)) (query plan : Plan)
+    (rows : Rows) (split : ℕ) (by_source : Lists) (entries : List Entry) (source : ℕ) (m : Message)
     → source < source_count old.works → TakesIn old new source m
     → ServesAlone old schemas query plan rows split by_source entries
     → IsNext schemas by_source source m
@@ -78,6 +76,7 @@ alone-takes old new schemas query plan rows split by_source entries source m wit
         got = s.got ++ t.more;
         calm = t.taken_in came schemas plan rows s.base s.given s.got entries s.calm;
         based = s.based;
+        closes = s.closes;
         each = at-each (λ (k : ℕ) (l : List Message). Reads schemas plan k
             → IsGiven s.base l (with_message s.given source m k)) by_source source m
             (λ reads. subst (IsGiven s.base (by_source source ++ m ∷ []))
@@ -96,6 +95,7 @@ alone-takes old new schemas query plan rows split by_source entries source m wit
             got = s.got;
             calm = s.calm;
             based = s.based;
+            closes = s.closes;
             each = at-each (λ (k : ℕ) (l : List Message). Reads schemas plan k
                 → IsGiven s.base l (s.given k)) by_source source m
                 (λ reads. absurd (not (may-come old.works schemas plan s.given s.got source m
@@ -110,7 +110,7 @@ alone-takes old new schemas query plan rows split by_source entries source m wit
 
 -- ---- two plans
 
-some-item : {X : Type 0} (xs : List X) (k : ℕ) → k < length xs → X
+pub some-item : {X : Type 0} (xs : List X) (k : ℕ) → k < length xs → X
 some-item [] k l = absurd (omega (arith, l))
 some-item (x ∷ xs) k l = x
 
@@ -178,7 +178,7 @@ high-lies split first p message.End x lows kinds up can h fits =
     subst (λ (y : Message). StartsFromSplit (max split first) y × MessageFits y kinds) (sym here)
     (tt, tt)
 
-abbrev IsFew : List Message → Type 0
+abbrev pub IsFew : List Message → Type 0
 IsFew [] = Unit {0}
 IsFew (x ∷ []) = Unit {0}
 IsFew (x ∷ y ∷ ys) = ⊥
@@ -214,7 +214,8 @@ module _ (schemas : List (List Kind)) (before plan : Plan) (rows : Rows) (base :
         record {
           list = with_message below source x;
           moving = t.taken_in came schemas before plan rows base below from entries moving;
-          here = λ reads. with-same below source x ∙ sym (grown-going (below source) (x ∷ []) going);
+          here = λ reads.
+              with-same below source x ∙ sym (grown-going (below source) (x ∷ []) going);
           others = λ k apart. with-other below source x k apart;
         })
     | inr not ↦ record {
@@ -261,7 +262,7 @@ module _ (schemas : List (List Kind)) (before plan : Plan) (rows : Rows) (base :
     }
   ]
 
-follow-of : (list : List Message) (x : Message) → Valid (list ++ x ∷ [])
+pub follow-of : (list : List Message) (x : Message) → Valid (list ++ x ∷ [])
     → CanFollow (run start_of_list list) x
 follow-of list x valid = (valid-suffix start_of_list list (x ∷ []) valid).0
 
@@ -285,28 +286,19 @@ high-few split (message.Elem e) lows highs h = go h.second h.from_is
 high-few split (message.Beat at) lows highs h = subst IsFew (sym h.1) tt
 high-few split message.End lows highs h = subst IsFew (sym h.1) tt
 
-mapped-count : (inputs : List Input)
-    → length (map (λ (i : Input). i.schema) inputs) ≡ length inputs
-mapped-count [] = refl
-mapped-count (i ∷ inputs) = omega (arith, mapped-count inputs)
-
-pub count-is : (w : Works) (schemas : List (List Kind)) (plan : Plan) (given : Lists)
-    (got : List Message) → WorksStand w schemas plan given got → source_count w ≡ length schemas
-count-is w schemas plan given got s = sym (mapped-count w.inputs.items)
-    ∙ ap (λ (l : List (List Kind)). length l) s.schemas_are
-
-from-seam : (old new : Between) (source : ℕ) (highs : List Message)
+pub from-seam : (old new : Between) (source : ℕ) (highs : List Message)
     → GivesFrom old new source highs → new.seam ≡ old.seam
 from-seam old new source [] t = ap (λ (m : Between). m.seam) t
 from-seam old new source (x ∷ xs) t = t.seam
 
-module _ (old new : Between) (schemas : List (List Kind)) (query plan : Plan) (rows : Rows)
-    (split : ℕ) (by_source : Lists) (entries : List Entry) (source : ℕ) (m : Message)
-    (lows highs : List Message) (within : source < source_count old.old_works)
+module _ (old new : Between) (schemas : List (List Kind)) (query plan : Plan)
+    (earlier : List Plan) (rows : Rows) (split : ℕ) (by_source : Lists) (entries : List Entry)
+    (source : ℕ) (m : Message) (lows highs : List Message)
+    (within : source < source_count old.old_works)
     (within_fresh : source < source_count old.fresh_works)
     (h : IsHalved (split_of old) m lows highs) (g : GivesBoth old new source lows highs)
     (valid : (s : ℕ) → Valid (by_source s))
-    (s : ServesMoving old schemas query plan rows split by_source entries)
+    (s : ServesMoving old schemas query plan earlier rows split by_source entries)
     (next : IsNext schemas by_source source m) where
   low : (x : Message) × (lows ≡ x ∷ [])
   low = low-is (split_of old) m lows highs h
@@ -386,10 +378,12 @@ module _ (old new : Between) (schemas : List (List Kind)) (query plan : Plan) (r
       (subst (λ (l : List Message). AreGiven (split_of old) s.base (first_of old) (by_source k) l
       (s.from k)) (sym (below_now.others k apart)) (s.each k reads)))
 
-  pub moving-takes : ServesMoving new schemas query plan rows split
+  pub moving-takes : ServesMoving new schemas query plan earlier rows split
       (with_message by_source source m) entries
   moving-takes = record {
     before = s.before;
+    past = s.past;
+    earlier_is = s.earlier_is;
     base = s.base;
     below = below_now.list;
     from = from_now.list;
@@ -410,18 +404,18 @@ pub alone-next : (old new : Standing) (source : ℕ) (m : Message) → source < 
 alone-next old new source m within t = record {
   entries = t.entries;
   beat = t.beat;
-  holds = λ schemas query plan rows split by_source entries s valid next.
+  holds = λ schemas query plan earlier rows split by_source entries s valid next.
       alone-takes old new schemas query plan rows split by_source entries source m within t s next;
 }
 
-below-entries : (old new : Between) (source : ℕ) (lows : List Message)
+pub below-entries : (old new : Between) (source : ℕ) (lows : List Message)
     → GivesBelow old new source lows
     → (new.output.entries.items ≡ old.output.entries.items) × (new.output.beat ≡ old.output.beat)
 below-entries old new source [] t =
     (ap (λ (m : Between). m.output.entries.items) t, ap (λ (m : Between). m.output.beat) t)
 below-entries old new source (x ∷ xs) t = (t.entries ∙ append-nil _, t.beat)
 
-from-entries : (old new : Between) (source : ℕ) (highs : List Message)
+pub from-entries : (old new : Between) (source : ℕ) (highs : List Message)
     → GivesFrom old new source highs
     → (new.output.entries.items ≡ old.output.entries.items) × (new.output.beat ≡ old.output.beat)
 from-entries old new source [] t =
@@ -438,7 +432,7 @@ moving-next old new source m lows highs within within_fresh h g =
     record {
       entries = high.0 ∙ low.0 ∙ sym (append-nil old.output.entries.items);
       beat = high.1 ∙ low.1;
-      holds = λ schemas query plan rows split by_source entries s valid next.
-          moving-takes old new schemas query plan rows split by_source entries source m lows highs
-          within within_fresh h g valid s next;
+      holds = λ schemas query plan earlier rows split by_source entries s valid next.
+          moving-takes old new schemas query plan earlier rows split by_source entries source m
+          lows highs within within_fresh h g valid s next;
     }

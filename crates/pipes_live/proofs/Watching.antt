@@ -1,32 +1,25 @@
 -- The sources of a query, and a message that may come from one.
-use Rattle.std.proofs.Common.{◌≡◌, ℕ, ◌+◌, ◌≤◌, ◌<◌, List, [], ◌∷◌, ◌++◌, length, get_or, set, map, take}
+use Rattle.std.proofs.Common.{◌≡◌, ℕ, ◌+◌, ◌<◌, List, [], ◌∷◌, ◌++◌, length, get_or, set, take}
 use Rattle.std.proofs.Common.{slice_get, unwrap_or, refl, sym, ap, subst, ◌∙◌, arith, inl, inr}
-use Rattle.std.proofs.Common.{append-nil, length-set}
+use Rattle.std.proofs.Common.{append-nil, length-set, min, suc}
 use Rattle.std.proofs.lemmas.Bool.{cases_lt}
-use Rattle.std.proofs.lemmas.Bool.Decides.{eqb_tells}
 use Rattle.std.proofs.lemmas.List.{get_or-set_same, get_or-set_other, take_more, map-append}
 use Rattle.std.proofs.lemmas.List.{get_or_push, length_push}
 use Rattle.pipes_box.proofs.Built.{get-before}
 use Rattle.pipes_tuple.specs.declared.value.Kind.{Kind}
 use Rattle.pipes_stream.specs.declared.message.Message.{Message}
 use Rattle.pipes_stream.specs.Progress.{Progress}
-use Rattle.pipes_stream.specs.Lists.{CanFollow, after, run, start_of_list, Valid}
-use Rattle.pipes_stream.specs.Lawful.{Lists, with_message, no_messages, MessageFits}
+use Rattle.pipes_stream.specs.Lists.{CanFollow, after, run, start_of_list, Valid, beat}
+use Rattle.pipes_stream.specs.Lawful.{Lists, with_message, no_messages, MessageFits, least}
 use Rattle.pipes_stream.proofs.Messages.{run-push, valid-push}
-use Rattle.pipes_plan.specs.declared.plan.Plan.{Plan}
-use Rattle.pipes_output.specs.declared.entry.Entry.{Entry}
-use Rattle.pipes_node.proofs.NodeSteps.{with-same, with-other}
 use Rattle.pipes_works.proofs.BySource.{mapped-at, map-set_same}
 use Rattle.pipes_live.specs.declared.source.Source.{Source}
 use Rattle.pipes_live.specs.declared.live.Live.{Live}
 use Rattle.pipes_live.specs.declared.state.State.{State}
-use Rattle.pipes_live.specs.Lives.{AreSources, AtWork, Serves, IsNext}
+use Rattle.pipes_live.specs.Lives.{AreSources, AtWork, IsNext}
 use Rattle.pipes_live.specs.Deeds.{MayCome, Noted, Takes, TakesNext}
 use Rattle.pipes_live.proofs.Given.{at-each}
-
-some-item : {X : Type 0} (xs : List X) (k : ℕ) → k < length xs → X
-some-item [] k l = absurd (omega (arith, l))
-some-item (x ∷ xs) k l = x
+use Rattle.pipes_live.proofs.Taking.{some-item}
 
 schema-at : (schemas : List (List Kind)) (by_source : Lists) (sources : List Source) (source : ℕ)
     (d : Source) → source < length sources → AreSources schemas by_source sources
@@ -62,9 +55,9 @@ pub passes-over : (l : Live) (source : ℕ) (m : Message) → source < length l.
 passes-over l source m within not = record {
   entries = sym (append-nil _);
   beat = refl;
-  taken_in = λ schemas query plan rows by_source entries s next.
+  taken_in = λ schemas query plan earlier rows by_source entries s next.
       absurd (not (next-may l schemas by_source source m within s.sources next));
-  passed_over = λ schemas query plan rows by_source entries s no_next. refl;
+  passed_over = λ schemas query plan earlier rows by_source entries s no_next. refl;
 }
 
 sources-put : (schemas : List (List Kind)) (by_source : Lists) (sources now : List Source)
@@ -105,16 +98,17 @@ takes-in old mid new source m within may noted t sources split =
     record {
       entries = rw noted.state at t.entries;
       beat = rw noted.state at t.beat;
-      taken_in = λ schemas query plan rows by_source entries s next. record {
-        at_work = subst (λ (n : ℕ). AtWork new.state schemas query plan rows n
+      taken_in = λ schemas query plan earlier rows by_source entries s next. record {
+        at_work = subst (λ (n : ℕ). AtWork new.state schemas query plan earlier rows n
             (with_message by_source source m) entries) (sym (split ∙ noted.split))
-            (t.holds schemas query plan rows old.split by_source entries
-            (subst (λ (x : State). AtWork x schemas query plan rows old.split by_source entries)
+            (t.holds schemas query plan earlier rows old.split by_source entries
+            (subst (λ (x : State).
+            AtWork x schemas query plan earlier rows old.split by_source entries)
             (sym noted.state) s.at_work) s.sources.valid next);
         sources = sources-put schemas by_source old.sources.items new.sources.items source m d
             within s.sources next (ap (λ x. x.items) sources ∙ noted.sources d);
       };
-      passed_over = λ schemas query plan rows by_source entries s not.
+      passed_over = λ schemas query plan earlier rows by_source entries s not.
           absurd (not (may-next old schemas by_source source m within s.sources may));
     }
 
@@ -144,3 +138,18 @@ sources-none schemas = record {
   watches = λ k d l. absurd (omega (arith, l));
   valid = λ j. tt;
 }
+
+-- ---- the least heartbeat
+
+pub least-watched : (schemas : List (List Kind)) (by_source : Lists) (sources : List Source)
+    (source low now next : ℕ) (d : Source) → source < length sources
+    → AreSources schemas by_source sources → low ≡ least source by_source
+    → now ≡ (get_or sources source d).watch.beat → next ≡ min now low
+    → next ≡ least (source + 1) by_source
+least-watched schemas by_source sources source low now next d within are before is found =
+    let at : now ≡ beat (by_source source) =
+    is ∙ ap (λ (p : Progress). p.beat) (are.watches source d within) in
+    let both : next ≡ min (beat (by_source source)) (least source by_source) =
+    omega (arith, found, at, before) in
+    let longer : suc source ≡ source + 1 = omega arith in
+    both ∙ ap (λ (k : ℕ). least k by_source) longer

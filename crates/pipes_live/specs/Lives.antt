@@ -3,6 +3,7 @@
 use Rattle.std.specs.Prelude.{◌≡◌, ℕ, ◌≤◌, ◌<◌, List, [], ◌∷◌, map, length, get_or}
 use Rattle.std.specs.Prelude.{slice_get, unwrap_or, ⊤}
 use Rattle.std.specs.List.{All}
+use Rattle.pipes_time.specs.Interval.{closed}
 use Rattle.pipes_tuple.specs.declared.value.Kind.{Kind}
 use Rattle.pipes_stream.specs.declared.message.Message.{Message}
 use Rattle.pipes_stream.specs.Lists.{run, start_of_list, Valid, CanFollow, beat, elements}
@@ -10,11 +11,12 @@ use Rattle.pipes_stream.specs.Lawful.{Lists, MessageFits, IsCovered}
 use Rattle.pipes_plan.specs.declared.plan.Plan.{Plan}
 use Rattle.pipes_output.specs.declared.entry.Entry.{Entry}
 use Rattle.pipes_semantics.specs.Written.{results}
+use Rattle.pipes_box.specs.Boxes.{all_held}
 use Rattle.pipes_works.specs.Sources.{Reads}
 use Rattle.pipes_works.specs.Standing.{IsWhole, source_count}
 use Rattle.pipes_halves.specs.Halves.{IsSoFar, SplitsUp}
 use Rattle.pipes_standing.specs.declared.standing.Standing.{Standing}
-use Rattle.pipes_standing.specs.Calms.{Rows, AnswerAlike, AllFed, AllEndBy, Calm}
+use Rattle.pipes_standing.specs.Calms.{Rows, AnswerAlike, AllEndBy, Calm}
 use Rattle.pipes_standing.specs.Calms.{IsSettled as IsSettledStanding}
 use Rattle.pipes_moving.specs.declared.moving.Moving.{Moving as Between}
 use Rattle.pipes_moving.specs.Moves.{IsMoving, IsWholeMoving, split_of, first_of}
@@ -64,14 +66,19 @@ pub record ServesAlone (s : Standing) (schemas : List (List Kind)) (query plan :
   pub got : List Message
   pub calm : Calm s schemas plan rows base given got entries
   pub based : base ≤ split
-  pub each : (source : ℕ) → Reads schemas plan source → IsGiven base (by_source source) (given source)
+  pub closes : split ≤ closed
+  pub each : (source : ℕ) → Reads schemas plan source
+      → IsGiven base (by_source source) (given source)
   pub alike : AnswerAlike schemas query plan rows
   pub ends : ResultsEnd schemas plan by_source entries
 
--- One plan is replaced by another at the split.
-pub record ServesMoving (m : Between) (schemas : List (List Kind)) (query plan : Plan) (rows : Rows)
-    (split : ℕ) (by_source : Lists) (entries : List Entry) : Type 0 where
+-- One plan is replaced by another at the split. It is the last one of those before.
+pub record ServesMoving (m : Between) (schemas : List (List Kind)) (query plan : Plan)
+    (earlier : List Plan) (rows : Rows) (split : ℕ) (by_source : Lists) (entries : List Entry)
+    : Type 0 where
   pub before : Plan
+  pub past : List Plan
+  pub earlier_is : earlier ≡ before ∷ past
   pub base : ℕ
   pub below : Lists
   pub from : Lists
@@ -83,38 +90,53 @@ pub record ServesMoving (m : Between) (schemas : List (List Kind)) (query plan :
   pub alike : AnswerAlike schemas query before rows
   pub ends : ResultsEnd schemas plan by_source entries
 
-abbrev pub AtWork : State → List (List Kind) → Plan → Plan → Rows → ℕ → Lists → List Entry → Type 0
-AtWork (state.Alone s) schemas query plan rows split by_source entries =
+abbrev pub AtWork : State → List (List Kind) → Plan → Plan → List Plan → Rows → ℕ → Lists
+    → List Entry → Type 0
+AtWork (state.Alone s) schemas query plan earlier rows split by_source entries =
     ServesAlone s schemas query plan rows split by_source entries
-AtWork (state.Moving m) schemas query plan rows split by_source entries =
-    ServesMoving m schemas query plan rows split by_source entries
+AtWork (state.Moving m) schemas query plan earlier rows split by_source entries =
+    ServesMoving m schemas query plan earlier rows split by_source entries
+AtWork state.Gone schemas query plan earlier rows split by_source entries = ⊥
 
 abbrev pub count_in : State → ℕ
 count_in (state.Alone s) = source_count s.works
 count_in (state.Moving m) = source_count m.fresh_works
+count_in state.Gone = 0
 
 abbrev pub IsWholeIn : State → Type 0
 IsWholeIn (state.Alone s) = IsWhole s.works
 IsWholeIn (state.Moving m) =
     IsWholeMoving m × (source_count m.old_works ≡ source_count m.fresh_works)
+IsWholeIn state.Gone = ⊥
 
 -- all that came is written, and nothing is on its way
 abbrev pub IsSettledIn : State → Type 0
 IsSettledIn (state.Alone s) = IsSettledStanding s
 IsSettledIn (state.Moving m) = IsSettledMoving m
+IsSettledIn state.Gone = ⊥
 
 abbrev pub beat_in : State → ℕ
 beat_in (state.Alone s) = s.output.beat
 beat_in (state.Moving m) = m.output.beat
+beat_in state.Gone = 0
 
 -- the entries that were made and not taken yet
 abbrev pub entries_in : State → List Entry
 entries_in (state.Alone s) = s.output.entries.items
 entries_in (state.Moving m) = m.output.entries.items
+entries_in state.Gone = []
 
+-- one plan is at work, and none is replaced
 abbrev pub IsAlone : State → Type 0
 IsAlone (state.Alone s) = ⊤
 IsAlone (state.Moving m) = ⊥
+IsAlone state.Gone = ⊥
+
+-- how many elements the plan keeps that is replaced
+abbrev pub held_before : State → ℕ
+held_before (state.Alone s) = 0
+held_before (state.Moving m) = all_held m.old_works.plan_box
+held_before state.Gone = 0
 
 -- ---- the whole
 
@@ -127,11 +149,12 @@ pub record AreSources (schemas : List (List Kind)) (by_source : Lists) (sources 
   pub valid : (source : ℕ) → Valid (by_source source)
 
 -- The query is served: each source gave this list, and these entries were written, both since the
--- start of the run, whatever was replaced meanwhile. The query's own plan is `query`, and the one
--- that is at work now, or takes the place of another, is `plan`.
-pub record Serves (l : Live) (schemas : List (List Kind)) (query plan : Plan) (rows : Rows)
-    (by_source : Lists) (entries : List Entry) : Type 0 where
-  pub at_work : AtWork l.state schemas query plan rows l.split by_source entries
+-- start of the run, whatever was replaced meanwhile. The query's own plan is `query`; the one that
+-- is at work now, or takes the place of another, is `plan`; and those before it, the last one
+-- first, are `earlier`.
+pub record Serves (l : Live) (schemas : List (List Kind)) (query plan : Plan) (earlier : List Plan)
+    (rows : Rows) (by_source : Lists) (entries : List Entry) : Type 0 where
+  pub at_work : AtWork l.state schemas query plan earlier rows l.split by_source entries
   pub sources : AreSources schemas by_source l.sources.items
 
 abbrev pub IsWholeLive : Live → Type 0

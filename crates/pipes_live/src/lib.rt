@@ -3,6 +3,7 @@
 #![tactic(auto)]
 
 mod live;
+mod openings;
 mod sides;
 mod source;
 mod state;

@@ -1,13 +1,14 @@
 // The sources of a query: how far each has come, and the kinds of its tuples.
-ghost use Rattle.std.specs.Prelude.{◌≡◌, IfOk, ◌↔◌, IsTrue};
+ghost use Rattle.std.specs.Prelude.{◌≡◌, IfOk, ◌↔◌, IsTrue, min, length, List};
+ghost use Rattle.pipes_tuple.specs.declared.value.Kind.{Kind};
 ghost use Rattle.pipes_stream.specs.Lists.{after};
-ghost use Rattle.pipes_stream.specs.Lawful.{MessageFits, no_messages};
+ghost use Rattle.pipes_stream.specs.Lawful.{MessageFits, no_messages, Lists, least};
 ghost use Rattle.pipes_node.specs.Passing.{MayPass};
 ghost use Rattle.pipes_live.specs.Lives.{AreSources};
 
 use pipes_plan::Schemas;
 use pipes_stream::{Message, Watch};
-use pipes_time::Memory;
+use pipes_time::{CLOSED, Memory};
 use pipes_tuple::Schema;
 use std::alloc::Global;
 
@@ -66,4 +67,24 @@ pub(crate) fn sources_of(alloc: Global, schemas: &Schemas) -> Result<Vec<Source>
         })?;
     }
     Ok(sources)
+}
+
+// The lesser of two heartbeats.
+fn lesser(a: u64, b: u64) -> u64
+    ensures { result ≡ min b a }
+{
+    b.min(a)
+}
+
+// The least heartbeat of these sources, `CLOSED` where there are none.
+pub(crate) fn least_beat(sources: &[Source]) -> u64
+    ensures { (schemas : List (List Kind)) (by_source : Lists)
+        → AreSources schemas by_source sources.now
+        → result ≡ least (length sources.now) by_source }
+{
+    let mut least = CLOSED;
+    for source in 0..sources.len() {
+        least = lesser(least, sources[source].watch.beat_now());
+    }
+    least
 }

@@ -1,21 +1,20 @@
 -- How far the output comes while a plan is replaced.
-use Rattle.std.proofs.Common.{◌≡◌, ℕ, zero, suc, ◌+◌, ◌≤◌, ◌<◌, max, min, Bool, true, false, cond}
+use Rattle.std.proofs.Common.{◌≡◌, ℕ, zero, suc, ◌≤◌, Bool, true, false, cond}
 use Rattle.std.proofs.Common.{nat_le}
-use Rattle.std.proofs.Common.{nat_lt, eqb, ◌&&◌, List, [], ◌∷◌, ◌++◌, refl, sym, ◌∙◌, ap, subst}
+use Rattle.std.proofs.Common.{nat_lt, eqb, ◌&&◌, List, [], ◌∷◌, refl, sym, subst}
 use Rattle.std.proofs.Common.{arith}
 use Rattle.std.proofs.Common.{inl, inr}
-use Rattle.std.specs.List.{All, Contains}
+use Rattle.std.specs.List.{All}
 use Rattle.std.proofs.lemmas.Bool.{cases_lt, le-leb}
 use Rattle.std.proofs.lemmas.Bool.Decides.{Decides-eqb}
 use Rattle.std.proofs.lemmas.List.Elements.{All-nil, All-cons, All-head, All-tail, All-weaker}
-use Rattle.std.proofs.lemmas.List.Elements.{All-contains, All-same}
+use Rattle.std.proofs.lemmas.List.Elements.{All-contains}
 use Rattle.pipes_tuple.specs.declared.value.Kind.{Kind}
 use Rattle.pipes_stream.specs.declared.Elem.{Elem}
-use Rattle.pipes_stream.specs.declared.message.Message.{Message}
-use Rattle.pipes_stream.specs.Lists.{beat, elements}
+use Rattle.pipes_stream.specs.Lists.{elements}
 use Rattle.pipes_stream.specs.Lawful.{Lists, IsCovered, floor}
 use Rattle.pipes_stream.specs.Weights.{weigh}
-use Rattle.pipes_stream.proofs.Ports.{floor-below, All-parts}
+use Rattle.pipes_stream.proofs.Ports.{floor-below}
 use Rattle.pipes_coalesce.specs.Tests.{if_so, waits_below}
 use Rattle.pipes_coalesce.proofs.Touching.{not-lt}
 use Rattle.pipes_plan.specs.declared.plan.Plan.{Plan}

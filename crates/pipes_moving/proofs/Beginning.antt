@@ -1,15 +1,16 @@
 -- A plan begins to take the place of another.
-use Rattle.std.proofs.Common.{◌≡◌, ◌↔◌, IsTrue, ℕ, ◌+◌, ◌≤◌, ◌<◌, max, Bool, true, false, List, []}
+use Rattle.std.proofs.Common.{◌≡◌, ◌↔◌, IsTrue, ℕ, ◌≤◌, ◌<◌, max, Bool, true, false, List, []}
 use Rattle.std.proofs.Common.{◌∷◌, ◌++◌}
-use Rattle.std.proofs.Common.{refl, sym, ◌∙◌, ap, subst, arith, append-nil}
+use Rattle.std.proofs.Common.{refl, sym, ◌∙◌, ap, arith, append-nil, length}
 use Rattle.std.specs.List.{All}
+use Rattle.std.proofs.lemmas.List.{length-map}
 use Rattle.std.proofs.lemmas.List.Elements.{All-nil}
 use Rattle.pipes_time.specs.Interval.{closed}
 use Rattle.pipes_tuple.specs.declared.value.Kind.{Kind}
 use Rattle.pipes_stream.specs.declared.Elem.{Elem}
 use Rattle.pipes_stream.specs.declared.message.Message.{Message}
 use Rattle.pipes_stream.specs.declared.message.Message.TheVariants as message
-use Rattle.pipes_stream.specs.Lists.{run, start_of_list, beat, elements, HasEnded}
+use Rattle.pipes_stream.specs.Lists.{run, start_of_list, beat, HasEnded}
 use Rattle.pipes_stream.specs.Lawful.{Lists, no_messages}
 use Rattle.pipes_coalesce.specs.Stands.{CoalesceStands}
 use Rattle.pipes_seam.specs.Seams.{opening_of, end_of}
@@ -17,7 +18,10 @@ use Rattle.pipes_plan.specs.declared.plan.Plan.{Plan}
 use Rattle.pipes_plan.specs.PlanKinds.{IsTyped}
 use Rattle.pipes_output.specs.declared.entry.Entry.{Entry}
 use Rattle.pipes_semantics.specs.Written.{results}
-use Rattle.pipes_works.specs.Standing.{WorksStand}
+use Rattle.pipes_works.specs.declared.input.Input.{Input}
+use Rattle.pipes_works.specs.declared.works.Works.{Works}
+use Rattle.pipes_works.specs.Standing.{WorksStand, source_count}
+use Rattle.pipes_written.specs.declared.output.Output.{Output}
 use Rattle.pipes_standing.specs.declared.standing.Standing.{Standing}
 use Rattle.pipes_standing.specs.Calms.{Rows, AnswerAlike, AllEndBy, Calm}
 use Rattle.pipes_moving.specs.declared.moving.Moving.{Moving}
@@ -93,6 +97,13 @@ module _ (standing : Standing) (next : Next) (split : ℕ) (m : Moving) (ended :
   begins = record {
     split_is = split_is;
     first_is = first_is;
+    beat = ap (λ (o : Output). o.beat) output_is;
     entries = rw output_is refl;
     moves = begins-moving;
   }
+
+-- a plan at work has as many sources as there are schemas
+pub count-is : (w : Works) (schemas : List (List Kind)) (plan : Plan) (given : Lists)
+    (got : List Message) → WorksStand w schemas plan given got → source_count w ≡ length schemas
+count-is w schemas plan given got s = sym (length-map w.inputs.items (λ (i : Input). i.schema))
+    ∙ ap (λ (l : List (List Kind)). length l) s.schemas_are

@@ -1,14 +1,15 @@
 -- A change is over: the fresh plan stands alone.
-use Rattle.std.proofs.Common.{◌≡◌, ◌⊎◌, ℕ, ◌+◌, ◌≤◌, ◌<◌, max, true, List, [], ◌∷◌, ◌++◌, length}
-use Rattle.std.proofs.Common.{get_or}
-use Rattle.std.proofs.Common.{slice_get, unwrap_or, refl, sym, ◌∙◌, ap, subst, arith, inl, inr}
+use Rattle.std.proofs.Common.{◌≡◌, ◌⊎◌, ℕ, ◌≤◌, ◌<◌, max, List, [], ◌∷◌, ◌++◌}
+use Rattle.std.proofs.Common.{slice_get, unwrap_or, sym, ◌∙◌, ap, subst, arith, inl, inr}
 use Rattle.std.proofs.Common.{append-nil}
 use Rattle.std.specs.List.{All}
+use Rattle.std.proofs.lemmas.Bool.{cases_lt}
 use Rattle.std.proofs.lemmas.List.Elements.{All-weaker}
-use Rattle.pipes_time.specs.Interval.{horizon, closed}
+use Rattle.pipes_time.specs.Interval.{closed, IsInterval}
 use Rattle.pipes_tuple.specs.declared.value.Value.{Value}
 use Rattle.pipes_tuple.specs.declared.value.Kind.{Kind}
 use Rattle.pipes_tuple.specs.Bag.{SameBag}
+use Rattle.pipes_tuple.proofs.Bags.{SameBag-refl}
 use Rattle.pipes_stream.specs.declared.Elem.{Elem}
 use Rattle.pipes_stream.specs.declared.message.Message.{Message}
 use Rattle.pipes_stream.specs.Progress.{Progress}
@@ -16,16 +17,18 @@ use Rattle.pipes_stream.specs.Snapshot.{snapshot}
 use Rattle.pipes_stream.specs.Lists.{run, start_of_list, Valid, beat, elements, HasEnded}
 use Rattle.pipes_stream.specs.Lawful.{Lists, IsCovered, floor}
 use Rattle.pipes_stream.specs.Weights.{weigh}
-use Rattle.pipes_stream.proofs.Messages.{beat-ended, elements-append}
+use Rattle.pipes_stream.proofs.Following.{intervals}
+use Rattle.pipes_stream.proofs.Messages.{beat-ended, beat-closed, elements-append}
 use Rattle.pipes_stream.proofs.Ports.{floor-below, All-parts}
-use Rattle.pipes_coalesce.specs.Tests.{ends_above, starts_below}
-use Rattle.pipes_coalesce.specs.Stands.{CoalesceStands, IsMerged, held_of}
+use Rattle.pipes_coalesce.specs.Tests.{ends_above}
+use Rattle.pipes_coalesce.specs.Stands.{IsMerged, held_of}
 use Rattle.pipes_coalesce.specs.Merged.{Merged}
 use Rattle.pipes_seam.specs.Seams.{opening_of}
 use Rattle.pipes_seam.proofs.Going.{both-weigh}
 use Rattle.pipes_seam.proofs.Openings.{opened-list-run, opened-list-elements}
 use Rattle.pipes_seam.proofs.Spans.{ends-none}
-use Rattle.pipes_seam.proofs.Over.{over-held, over-above, over-same}
+use Rattle.pipes_seam.proofs.Over.{over-held, over-same}
+use Rattle.pipes_seam.proofs.Sending.{over-none}
 use Rattle.pipes_plan.specs.declared.plan.Plan.{Plan}
 use Rattle.pipes_node.proofs.NodeSteps.{get-any}
 use Rattle.pipes_output.specs.declared.entry.Entry.{Entry}
@@ -36,18 +39,19 @@ use Rattle.pipes_works.specs.Sources.{AnswersSources, KeepsUpWithSources, AllRea
 use Rattle.pipes_works.specs.Sources.{AllSourcesEnded, Reads, by_leaf, source_of}
 use Rattle.pipes_works.specs.Standing.{WorksStand}
 use Rattle.pipes_works.specs.declared.works.Works.{Works}
-use Rattle.pipes_works.proofs.Leaves.{sources-count, EachLeaf, each-at, fits-each}
+use Rattle.pipes_works.proofs.Leaves.{sources-count, each-at, fits-each}
 use Rattle.pipes_works.proofs.GivenKinds.{plan-over}
 use Rattle.pipes_standing.specs.declared.standing.Standing.{Standing}
 use Rattle.pipes_standing.specs.Calms.{Rows, Calm}
 use Rattle.pipes_standing.proofs.Calming.{top-ends}
 use Rattle.pipes_standing.proofs.Alike.{alike-on}
 use Rattle.pipes_moving.specs.declared.moving.Moving.{Moving}
-use Rattle.pipes_moving.specs.Moves.{IsMoving, IsPassed, lag_between, AllStartFrom, split_of}
-use Rattle.pipes_moving.specs.Moves.{first_of}
+use Rattle.pipes_moving.specs.Moves.{IsMoving, IsPassed, IsNoFurther, lag_between, AllStartFrom}
+use Rattle.pipes_moving.specs.Moves.{split_of, first_of}
 use Rattle.pipes_moving.specs.Steps.{IsSettled}
 use Rattle.pipes_moving.proofs.Ahead.{floors-less, waits-none, top-covered}
-use Rattle.pipes_moving.proofs.Tops.{rest_from, rest-covers, rest-floors}
+use Rattle.pipes_moving.proofs.Tops.{rest_from, rest-covers, rest-floors, all_time, all-covers}
+use Rattle.pipes_moving.proofs.Tops.{all-floors}
 
 -- the list of a source that a plan reads is valid
 pub reads-valid : (w : Works) (schemas : List (List Kind)) (plan : Plan) (by_source : Lists)
@@ -81,6 +85,9 @@ top-reaches w schemas plan by_source got low s keeps starts reached =
           (reads-valid w schemas plan by_source got s source reads) (starts source reads)),
     )
 
+same-none : (xs ys : List (List Value)) → xs ≡ [] → ys ≡ [] → SameBag xs ys
+same-none xs ys none empty = rw (none, empty) (SameBag-refl [])
+
 module _ (schemas : List (List Kind)) (before after : Plan) (rows : Rows) (base : ℕ)
     (below from : Lists) (entries : List Entry) (m : Moving)
     (s : IsMoving m schemas before after rows base below from entries) (settled : IsSettled m)
@@ -107,20 +114,33 @@ module _ (schemas : List (List Kind)) (before after : Plan) (rows : Rows) (base 
   olds-run = ap (run start_of_list) olds-all ∙ opened-list-run s.begun s.since old-valid
       ∙ ap (run start_of_list) (sym s.old_got_is)
 
+  olds-beat : beat s.olds ≡ beat s.old_got
+  olds-beat = ap (λ (p : Progress). p.beat) olds-run
+
   olds-ended : AllSourcesEnded schemas before below → HasEnded s.olds
   olds-ended ended = ap (λ (p : Progress). p.ended) olds-run ∙ old_keeps.ends ended
 
   news-valid : Valid s.news
   news-valid = subst Valid (sym news-all) fresh_answers.valid
 
-  -- all sources have ended, and so has the output
-  pub output-ends : AllSourcesEnded schemas before below → AllSourcesEnded schemas after from
-      → m.output.beat ≡ closed
-  output-ends old_ended fresh_ended =
-      let both = merged.ended (olds-ended old_ended)
-      (subst HasEnded (sym news-all) (fresh_keeps.ends fresh_ended)) in
-      let full : beat s.sent ≡ closed = beat-ended s.sent merged.valid both.0 in
-      omega (arith, full, s.beat_is, s.written.bounded)
+  -- it is no further than the sources
+  pub output-below : IsNoFurther m schemas before after below from
+  output-below = record {
+    old = λ source reads. omega (
+      arith,
+      s.beat_is,
+      merged.beat_old,
+      olds-beat,
+      old_keeps.below source reads,
+    );
+    fresh = λ source reads. omega (
+      arith,
+      s.beat_is,
+      merged.beat_fresh,
+      ap beat news-all,
+      fresh_keeps.below source reads,
+    );
+  }
 
   -- it is kept back by no more than the elements that reach there
   pub output-far : (h : ℕ) (es : List Elem) → AllReached schemas before below h
@@ -137,7 +157,7 @@ module _ (schemas : List (List Kind)) (before after : Plan) (rows : Rows) (base 
         arith,
         floors-less a (max a b) h es (omega arith),
         old_keeps.above h es old_reached old_within,
-        ap (λ (p : Progress). p.beat) olds-run,
+        olds-beat,
       ) in
       let in_fresh : x ≤ beat s.news = omega (
         arith,
@@ -160,6 +180,20 @@ module _ (schemas : List (List Kind)) (before after : Plan) (rows : Rows) (base 
       (subst (All (IsCovered es)) (sym same) since)) in
       omega (arith, far, s.beat_is)
 
+  -- once all sources have come to the end, so has the output
+  pub output-ends : AllReached schemas before below closed → AllReached schemas after from closed
+      → m.output.beat ≡ closed
+  output-ends old_reached fresh_reached = omega (
+    arith,
+    all-floors (lag_between schemas before after),
+    output-far closed (all_time ∷ []) old_reached fresh_reached
+        (λ source reads. all-covers (below source)
+        (reads-valid m.old_works schemas before below s.old_got s.old source reads))
+        (λ source reads. all-covers (from source)
+        (reads-valid m.fresh_works schemas after from s.fresh_got s.fresh source reads)),
+    s.written.bounded,
+  )
+
   module _ (p : IsPassed m schemas before after below from) where
     reaches : first_of m ≤ beat s.news
     reaches = omega (
@@ -172,15 +206,33 @@ module _ (schemas : List (List Kind)) (before after : Plan) (rows : Rows) (base 
           (elements (from source)) (s.starts source reads)) p.reached,
     )
 
-    above-split : (split_of m < beat s.news) ⊎ HasEnded s.news
+    old-ends : AllReached schemas before below closed
+    old-ends source reads = let ended = beat-ended (below source)
+        (reads-valid m.old_works schemas before below s.old_got s.old source reads)
+        (p.old_ended source reads) in omega (arith, ended)
+
+    -- the fresh top is above the split, or both tops are at the end and so is the split
+    above-split : (split_of m < beat s.news)
+        ⊎ ((split_of m ≡ closed) × (m.output.beat ≡ closed) × (beat s.news ≡ closed))
     above-split = elim p.passed [
       | inl above ↦ inl (omega (arith, above, s.beat_is, merged.beat_fresh, reaches))
-      | inr ended ↦ inr (subst HasEnded (sym news-all) (fresh_keeps.ends ended))
+      | inr reached ↦ at-end (omega (
+        arith,
+        ap beat news-all,
+        all-floors (lag_of (shape_of schemas after)),
+        fresh_keeps.above closed (all_time ∷ []) reached
+            (λ source reads. all-covers (from source)
+            (reads-valid m.fresh_works schemas after from s.fresh_got s.fresh source reads)),
+        beat-closed s.news news-valid,
+      )) (output-ends old-ends reached)
     ]
-
-    held : (held_of m.seam.merge ≡ 0) × (beat s.sent ≡ beat s.news)
-    held = over-held (split_of m) (held_of m.seam.merge) s.olds s.news s.sent merged news-valid
-        (olds-ended p.old_ended) above-split
+      where
+        at-end : beat s.news ≡ closed → m.output.beat ≡ closed → (split_of m < beat s.news)
+            ⊎ ((split_of m ≡ closed) × (m.output.beat ≡ closed) × (beat s.news ≡ closed))
+        at-end news output = elim (cases_lt (split_of m) closed) [
+          | inl low ↦ inl (omega (arith, low, news))
+          | inr high ↦ inr (omega (arith, high, s.closes), output, news)
+        ]
 
     begun-low : weigh (ends_above (split_of m)) (elements s.begun) ≡ 0
     begun-low = omega (
@@ -192,7 +244,40 @@ module _ (schemas : List (List Kind)) (before after : Plan) (rows : Rows) (base 
     )
 
     output-is : m.output.beat ≡ beat s.news
-    output-is = omega (arith, s.beat_is, held.1, reaches)
+    output-is = elim above-split [
+      | inl above ↦
+          (let held = over-held (split_of m) (held_of m.seam.merge) s.olds s.news s.sent merged
+          news-valid (olds-ended p.old_ended) (inl above) in
+          omega (arith, s.beat_is, held.1, reaches))
+      | inr ends ↦ omega (arith, ends.1, ends.2)
+    ]
+
+    split-low : split_of m ≤ m.output.beat
+    split-low = elim above-split [
+      | inl above ↦ omega (arith, output-is, above)
+      | inr ends ↦ omega (arith, ends.0, ends.1)
+    ]
+
+    -- nothing is valid from the end of time on
+    none-after : (t : ℕ) (es : List Elem) → closed ≤ t
+        → All (λ e. IsInterval e.span.start e.span.end) es → snapshot es t ≡ []
+    none-after t es late spans = over-none closed t es
+        (ends-none closed es (λ k e at. (let most = (spans k e at).1 in omega (arith, most)))) late
+
+    shown-after : (t : ℕ) → split_of m ≤ t → SameBag (written_snapshot entries t)
+        (snapshot (elements s.news) t)
+    shown-after t high = elim above-split [
+      | inl above ↦ subst (λ (es : List Elem).
+          SameBag (snapshot es t) (snapshot (elements s.news) t)) (sym s.results_are)
+          (over-same (split_of m) (held_of m.seam.merge) s.olds s.news s.sent merged news-valid
+          (olds-ended p.old_ended) (inl above) t (results s.earlier) s.begun
+          (s.shown t (omega (arith, high, s.rises))) begun-low high)
+      | inr ends ↦ same-none (snapshot (results entries) t) (snapshot (elements s.news) t)
+          (none-after t (results entries) (omega (arith, high, ends.0))
+          (λ k e at. (s.written.typed k e at).0))
+          (none-after t (elements s.news) (omega (arith, high, ends.0))
+          (intervals start_of_list s.news news-valid))
+    ]
 
     pub calm-after : (standing : Standing) → standing.works ≡ m.fresh_works
         → standing.sent ≡ m.fresh_sent → standing.output ≡ m.output
@@ -205,16 +290,6 @@ module _ (schemas : List (List Kind)) (before after : Plan) (rows : Rows) (base 
       beat_is = rw output output-is;
       written = rw output (alike-on schemas before after rows m.output.beat entries s.alike
           s.written);
-      based = rw output (omega (
-        arith,
-        output-is,
-        over-above (split_of m) (held_of m.seam.merge) s.olds s.news s.sent merged news-valid
-            (olds-ended p.old_ended) above-split s.closes,
-      ));
-      shown = λ t high.
-          subst (λ (es : List Elem). SameBag (snapshot es t) (snapshot (elements s.news) t))
-          (sym s.results_are)
-          (over-same (split_of m) (held_of m.seam.merge) s.olds s.news s.sent merged news-valid
-          (olds-ended p.old_ended) above-split t (results s.earlier) s.begun
-          (s.shown t (omega (arith, high, s.rises))) begun-low high);
+      based = rw output split-low;
+      shown = shown-after;
     }

@@ -1,25 +1,23 @@
 -- What a settle leaves while a plan is replaced.
-use Rattle.std.proofs.Common.{◌≡◌, ℕ, ◌+◌, ◌≤◌, ◌<◌, max, false, List, [], ◌∷◌, ◌++◌, slice_get}
+use Rattle.std.proofs.Common.{◌≡◌, ℕ, ◌≤◌, ◌<◌, max, false, List, [], ◌++◌}
 use Rattle.std.proofs.Common.{unwrap_or}
 use Rattle.std.proofs.Common.{Option, refl, sym, ◌∙◌, ap, subst, arith, append_assoc, append-nil}
 use Rattle.std.specs.List.{All}
 use Rattle.std.proofs.lemmas.List.Elements.{All-same}
-use Rattle.pipes_time.specs.Interval.{horizon, closed}
-use Rattle.pipes_tuple.specs.declared.value.Value.{Value}
+use Rattle.pipes_time.specs.Interval.{horizon}
 use Rattle.pipes_tuple.specs.declared.value.Kind.{Kind}
 use Rattle.pipes_tuple.specs.Kinds.{Fits}
 use Rattle.pipes_tuple.specs.Bag.{SameBag}
 use Rattle.pipes_tuple.proofs.Bags.{SameBag-trans}
 use Rattle.pipes_stream.specs.declared.Elem.{Elem}
 use Rattle.pipes_stream.specs.declared.message.Message.{Message}
-use Rattle.pipes_stream.specs.Progress.{Progress}
 use Rattle.pipes_stream.specs.Snapshot.{snapshot}
-use Rattle.pipes_stream.specs.Lists.{run, start_of_list, Valid, ValidFrom, beat, elements}
+use Rattle.pipes_stream.specs.Lists.{Valid, ValidFrom, beat, elements}
 use Rattle.pipes_stream.specs.Lawful.{Lists}
 use Rattle.pipes_stream.specs.Weights.{weigh}
 use Rattle.pipes_stream.proofs.Messages.{elements-append}
-use Rattle.pipes_coalesce.specs.Tests.{ends_above, starts_below}
-use Rattle.pipes_coalesce.specs.Stands.{CoalesceStands, IsMerged}
+use Rattle.pipes_coalesce.specs.Tests.{ends_above}
+use Rattle.pipes_coalesce.specs.Stands.{IsMerged}
 use Rattle.pipes_seam.specs.declared.seam.Seam.{Seam}
 use Rattle.pipes_seam.specs.Seams.{Joins, told, level_of, opening_of}
 use Rattle.pipes_seam.proofs.Telling.{told-elements, told-level}
@@ -27,22 +25,21 @@ use Rattle.pipes_seam.proofs.Going.{Goes, goes, both-weigh}
 use Rattle.pipes_seam.proofs.Openings.{opened-list-elements}
 use Rattle.pipes_seam.proofs.Spans.{ends-none, none-ends}
 use Rattle.pipes_plan.specs.declared.plan.Plan.{Plan}
-use Rattle.pipes_plan.specs.PlanKinds.{IsTyped, plan_kinds}
+use Rattle.pipes_plan.specs.PlanKinds.{IsTyped}
 use Rattle.pipes_output.specs.declared.entry.Entry.{Entry}
-use Rattle.pipes_output.specs.declared.entry.Entry.TheVariants as entry
-use Rattle.pipes_semantics.specs.Written.{results, written_snapshot}
+use Rattle.pipes_semantics.specs.Written.{results}
 use Rattle.pipes_box.specs.Boxes.{IsStill}
-use Rattle.pipes_works.specs.Sources.{AnswersSources, AllReached, KeepsUpWithSources, Reads}
+use Rattle.pipes_works.specs.Sources.{AnswersSources, AllReached, KeepsUpWithSources}
 use Rattle.pipes_works.specs.Standing.{WorksStand}
 use Rattle.pipes_written.specs.declared.output.Output.{Output}
 use Rattle.pipes_written.specs.Written.{Answers, IsWritten, Continues, results_of, level_after}
-use Rattle.pipes_written.specs.Made.{Made, Adds, TellsMove}
+use Rattle.pipes_written.specs.Made.{Made, Adds, drained}
 use Rattle.pipes_written.proofs.Splits.{results-append, results-map}
-use Rattle.pipes_standing.specs.Calms.{Rows, AllFed, AllEndBy, answer_of, kinds_of}
-use Rattle.pipes_standing.proofs.Calming.{top-ends}
+use Rattle.pipes_standing.specs.Calms.{Rows, AllFed, AllEndBy, Advances, answer_of, kinds_of}
+use Rattle.pipes_standing.proofs.Calming.{top-ends, sent-advances}
 use Rattle.pipes_moving.specs.declared.moving.Moving.{Moving}
 use Rattle.pipes_moving.specs.Moves.{IsMoving, FedBelow, split_of, first_of}
-use Rattle.pipes_moving.specs.Steps.{WorksBothOff, Settles, IsSettled, nothing_more, Tells}
+use Rattle.pipes_moving.specs.Steps.{WorksBothOff, Settles, Tells}
 use Rattle.pipes_moving.proofs.Tops.{top-starts}
 
 -- the kinds of what comes to a top
@@ -94,6 +91,19 @@ module _ (schemas : List (List Kind)) (before after : Plan) (rows : Rows) (base 
       ∙ append_assoc (results s.earlier) (elements s.sent) (elements joins.more)
       ∙ ap (λ (es : List Elem). results s.earlier ++ es)
       (sym (elements-append s.sent joins.more))
+
+  now-follows : ValidFrom (record { beat = old.output.beat; ended = false }) now
+  now-follows = subst (λ (l : List Message). ValidFrom (record {
+    beat = old.output.beat;
+    ended = false;
+  }) l) (sym told-is)
+      (subst (λ (n : ℕ). ValidFrom (record { beat = n; ended = false })
+      (told (elements joins.more) (level_of new.seam))) (sym s.beat_is) gone.follows)
+
+  pub now-advances : new.output.beat ≡ level_after old.output.beat now
+      → Advances old.output.beat new.output.beat now
+  now-advances beat_is = sent-advances (record { beat = old.output.beat; ended = false }) now
+      old.output.beat new.output.beat now-follows s.written.bounded refl beat_is
 
   -- no result ends above an instant by which all ends that the sources gave
   pub now-ends : (instant : ℕ) → AllEndBy schemas before instant below
@@ -153,12 +163,7 @@ module _ (schemas : List (List Kind)) (before after : Plan) (rows : Rows) (base 
     continues = record {
       so_far = record { beat = old.output.beat; ended = false };
       there = refl;
-      valid = subst (λ (l : List Message). ValidFrom (record {
-        beat = old.output.beat;
-        ended = false;
-      }) l) (sym told-is)
-          (subst (λ (n : ℕ). ValidFrom (record { beat = n; ended = false })
-          (told (elements joins.more) (level_of new.seam))) (sym s.beat_is) gone.follows);
+      valid = now-follows;
       fits = All-same (λ (e : Elem). Fits e.tuple (kinds_of schemas before)) (elements now)
           (elements joins.more) now-elements
           (gone.fits (kinds_of schemas before)
@@ -238,12 +243,11 @@ pub settles : (old new : Moving) (empty now : List Message)
     → IsWritten kinds answer old.output.beat entries
     → Continues kinds answer old.output.beat entries now
     → IsWritten kinds answer new.output.beat (entries ++ results_of now))
-    → Settles old new nothing_more
+    → Settles old new
 settles old new empty now joins none merges answers keeps fresh_answers fresh_keeps still
     fresh_still same_old same_fresh no_olds no_news made written = record {
       sent = now;
-      entries = made.entries ∙ ap (λ (l : List Entry). old.output.entries.items ++ l)
-          (sym (append-nil (results_of now)));
+      entries = made.entries;
       settled = record {
         old_still = still;
         fresh_still = fresh_still;
@@ -260,11 +264,15 @@ settles old new empty now joins none merges answers keeps fresh_answers fresh_ke
           let more = written (kinds_of schemas before) (answer_of before rows) entries s.written
           (continues schemas before after rows base below from entries old new s a b c d empty now
           joins none merges fed_below fed_from) in
-          subst (λ (l : List Entry). IsMoving new schemas before after rows base below from
-          (entries ++ l)) (sym (append-nil (results_of now)))
-          (moved schemas before after rows base below from entries old new s a b c d empty now
-          joins none merges fed_below fed_from same_old same_fresh no_olds no_news made.beat
-          more);
+          moved schemas before after rows base below from entries old new s a b c d empty now
+          joins none merges fed_below fed_from same_old same_fresh no_olds no_news made.beat more;
+      advances = λ schemas before after rows base below from entries s.
+          now-advances schemas before after rows base below from entries old new s
+          (answers schemas before below s.old_got s.old)
+          (keeps schemas before below s.old_got s.old).below
+          (fresh_answers schemas after from s.fresh_got s.fresh)
+          (fresh_keeps schemas after from s.fresh_got s.fresh).below empty now joins none merges
+          made.beat;
       ends = λ schemas before after rows base below from entries s instant old_end fresh_end.
           now-ends schemas before after rows base below from entries old new s
           (answers schemas before below s.old_got s.old)
@@ -320,15 +328,13 @@ worked schemas before after rows base below from entries old new w s =
     }
 
 -- and then all is written
-pub settles-after : (old mid new : Moving) (last : ℕ → List Entry) → WorksBothOff old mid
-    → Settles mid new last → Settles old new last
-settles-after old mid new last w s =
+pub settles-after : (old mid new : Moving) → WorksBothOff old mid → Settles mid new
+    → Settles old new
+settles-after old mid new w s =
     let split : split_of mid ≡ split_of old = ap (λ (x : Seam). x.merge.split) w.seam in
     record {
       sent = s.sent;
-      entries = s.entries
-          ∙ ap (λ (o : Output). o.entries.items ++ (results_of s.sent ++ last new.output.beat))
-          w.output;
+      entries = s.entries ∙ ap (λ (o : Output). o.entries.items ++ results_of s.sent) w.output;
       settled = s.settled;
       split = s.split ∙ split;
       first = s.first ∙ ap (λ (x : Seam). x.first) w.seam;
@@ -337,6 +343,10 @@ settles-after old mid new last w s =
           (worked schemas before after rows base below from entries old mid w m)
           (subst (λ (t : ℕ). FedBelow schemas before rows base t below) (sym split) fed_below)
           (subst (λ (t : ℕ). AllFed schemas after rows t from) (sym split) fed_from);
+      advances = λ schemas before after rows base below from entries m.
+          subst (λ (o : Output). Advances o.beat new.output.beat s.sent) w.output
+          (s.advances schemas before after rows base below from entries
+          (worked schemas before after rows base below from entries old mid w m));
       ends = λ schemas before after rows base below from entries m.
           s.ends schemas before after rows base below from entries
           (worked schemas before after rows base below from entries old mid w m);
@@ -393,49 +403,6 @@ moving-more schemas before after rows base below from entries more old new same 
       beat_is = rw same.seam (beat_is ∙ s.beat_is);
     }
 
--- and then entries that are no results
-pub settles-then : (old mid new : Moving) (last : ℕ → List Entry)
-    → ((output : ℕ) → results (last output) ≡ []) → Settles old mid nothing_more
-    → SameButOutput mid new → Adds mid.output new.output (last mid.output.beat)
-    → ((kinds : List Kind) (answer : Answers) (entries : List Entry)
-    → IsWritten kinds answer mid.output.beat entries
-    → IsWritten kinds answer new.output.beat (entries ++ last mid.output.beat))
-    → Settles old new last
-settles-then old mid new last none s same adds written =
-    let told : last new.output.beat ≡ last mid.output.beat = ap last adds.beat in
-    record {
-      sent = s.sent;
-      entries = adds.entries
-          ∙ ap (λ (l : List Entry). l ++ last mid.output.beat)
-          (s.entries ∙ ap (λ (l : List Entry). old.output.entries.items ++ l)
-          (append-nil (results_of s.sent)))
-          ∙ append_assoc old.output.entries.items (results_of s.sent) (last mid.output.beat)
-          ∙ ap (λ (l : List Entry). old.output.entries.items ++ (results_of s.sent ++ l))
-          (sym told);
-      settled = record {
-        old_still = rw same.old_works s.settled.old_still;
-        fresh_still = rw same.fresh_works s.settled.fresh_still;
-        no_olds = rw same.olds s.settled.no_olds;
-        no_news = rw same.news s.settled.no_news;
-      };
-      split = ap (λ (x : Seam). x.merge.split) same.seam ∙ s.split;
-      first = ap (λ (x : Seam). x.first) same.seam ∙ s.first;
-      holds = λ schemas before after rows base below from entries m fed_below fed_from.
-          let r = s.holds schemas before after rows base below from entries m fed_below fed_from in
-          let first : IsMoving mid schemas before after rows base below from
-          (entries ++ results_of s.sent) =
-          subst (λ (l : List Entry). IsMoving mid schemas before after rows base below from
-          (entries ++ l)) (append-nil (results_of s.sent)) r in
-          subst (λ (l : List Entry). IsMoving new schemas before after rows base below from l)
-          (append_assoc entries (results_of s.sent) (last mid.output.beat)
-          ∙ ap (λ (l : List Entry). entries ++ (results_of s.sent ++ l)) (sym told))
-          (moving-more schemas before after rows base below from (entries ++ results_of s.sent)
-          (last mid.output.beat) mid new same adds.beat (none mid.output.beat)
-          (written (kinds_of schemas before) (answer_of before rows)
-          (entries ++ results_of s.sent)) first);
-      ends = s.ends;
-    }
-
 -- the entries were taken
 pub moving-same : (schemas : List (List Kind)) (before after : Plan) (rows : Rows) (base : ℕ)
     (below from : Lists) (entries : List Entry) (old new : Moving) → SameButOutput old new
@@ -450,10 +417,10 @@ moving-same schemas before after rows base below from entries old new same beat_
     IsWritten (kinds_of schemas before) (answer_of before rows) old.output.beat l)
     (sym (append-nil entries)) w)) s)
 
--- whether memory was wanting doesn't bear on it
-pub settles-same : (old mid new : Moving) (last : ℕ → List Entry) → Settles old mid last
-    → SameButOutput mid new → new.output ≡ mid.output → Settles old new last
-settles-same old mid new last s same output =
+-- whether a call was out of memory doesn't bear on it
+pub settles-same : (old mid new : Moving) → Settles old mid → SameButOutput mid new
+    → new.output ≡ mid.output → Settles old new
+settles-same old mid new s same output =
     let beat_is : new.output.beat ≡ mid.output.beat = ap (λ (o : Output). o.beat) output in
     record {
       sent = s.sent;
@@ -467,34 +434,24 @@ settles-same old mid new last s same output =
       split = ap (λ (x : Seam). x.merge.split) same.seam ∙ s.split;
       first = ap (λ (x : Seam). x.first) same.seam ∙ s.first;
       holds = λ schemas before after rows base below from entries m fed_below fed_from.
-          let r = s.holds schemas before after rows base below from entries m fed_below fed_from in
-          subst (λ (h : ℕ). IsMoving new schemas before after rows base below from
-          (entries ++ (results_of s.sent ++ last h))) (sym beat_is)
-          (moving-same schemas before after rows base below from
-          (entries ++ (results_of s.sent ++ last mid.output.beat)) mid new same beat_is r);
+          moving-same schemas before after rows base below from (entries ++ results_of s.sent) mid
+          new same beat_is
+          (s.holds schemas before after rows base below from entries m fed_below fed_from);
+      advances = λ schemas before after rows base below from entries m.
+          subst (λ (n : ℕ). Advances old.output.beat n s.sent) (sym beat_is)
+          (s.advances schemas before after rows base below from entries m);
       ends = s.ends;
     }
 
-no-result : (e : Entry) → TellsMove e → results (e ∷ []) ≡ []
-no-result (entry.Result e) t = absurd t
-no-result (entry.Beat h) t = absurd t
-no-result (entry.Accepted number split) t = refl
-no-result (entry.Refused command why) t = refl
-no-result (entry.Idle number) t = refl
-no-result (entry.Over number) t = refl
-no-result (entry.Drained inputs output) t = absurd t
-no-result entry.Ended t = absurd t
-no-result entry.Stopped t = absurd t
-
--- an entry that tells of a migration was made, where room was made before
-pub tells : (old new : Moving) (mid : Output) (e : Entry) → SameButOutput old new → TellsMove e
-    → Adds old.output mid [] → Adds mid new.output (e ∷ [])
+-- entries that are no results were made, where room was made before
+pub tells : (old new : Moving) (mid : Output) (more : List Entry) → SameButOutput old new
+    → results more ≡ [] → Adds old.output mid [] → Adds mid new.output more
     → ((kinds : List Kind) (answer : Answers) (entries : List Entry)
     → IsWritten kinds answer mid.beat entries
-    → IsWritten kinds answer new.output.beat (entries ++ e ∷ []))
-    → Tells old new e
-tells old new mid e same of_move first adds written = record {
-  entries = adds.entries ∙ ap (λ (l : List Entry). l ++ e ∷ [])
+    → IsWritten kinds answer new.output.beat (entries ++ more))
+    → Tells old new more
+tells old new mid more same none first adds written = record {
+  entries = adds.entries ∙ ap (λ (l : List Entry). l ++ more)
       (first.entries ∙ append-nil old.output.entries.items);
   settled = λ s. record {
     old_still = rw same.old_works s.old_still;
@@ -505,8 +462,18 @@ tells old new mid e same of_move first adds written = record {
   seam = same.seam;
   beat = adds.beat ∙ first.beat;
   holds = λ schemas before after rows base below from entries m.
-      moving-more schemas before after rows base below from entries (e ∷ []) old new same
-      (adds.beat ∙ first.beat) (no-result e of_move)
+      moving-more schemas before after rows base below from entries more old new same
+      (adds.beat ∙ first.beat) none
       (λ w. written (kinds_of schemas before) (answer_of before rows) entries
       (rw first.beat w)) m;
 }
+
+pub tells-drain : (old new : Moving) (mid : Output) (inputs : ℕ) → SameButOutput old new
+    → Adds old.output mid [] → Adds mid new.output (drained inputs mid.beat)
+    → ((kinds : List Kind) (answer : Answers) (entries : List Entry)
+    → IsWritten kinds answer mid.beat entries
+    → IsWritten kinds answer new.output.beat (entries ++ drained inputs mid.beat))
+    → Tells old new (drained inputs old.output.beat)
+tells-drain old new mid inputs same first adds written =
+    subst (λ (at : ℕ). Tells old new (drained inputs at)) first.beat
+    (tells old new mid (drained inputs mid.beat) same refl first adds written)

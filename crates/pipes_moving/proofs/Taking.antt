@@ -1,27 +1,21 @@
 -- A message was taken in while a plan is replaced.
-use Rattle.std.proofs.Common.{◌≡◌, ℕ, ◌+◌, ◌≤◌, max, Bool, true, false, cond, eqb, List, [], ◌∷◌}
+use Rattle.std.proofs.Common.{◌≡◌, ℕ, ◌≤◌, max, Bool, true, false, cond, eqb, List, [], ◌∷◌}
 use Rattle.std.proofs.Common.{◌++◌}
-use Rattle.std.proofs.Common.{refl, sym, ◌∙◌, ap, subst, arith, append-nil, append_assoc}
+use Rattle.std.proofs.Common.{refl, sym, ◌∙◌, ap, append-nil, append_assoc}
 use Rattle.std.proofs.Common.{inl, inr}
 use Rattle.std.specs.List.{All}
 use Rattle.std.proofs.lemmas.List.Elements.{All-nil, All-cons, All-append, All-same}
-use Rattle.pipes_tuple.specs.declared.value.Kind.{Kind}
 use Rattle.pipes_stream.specs.declared.Elem.{Elem}
 use Rattle.pipes_stream.specs.declared.message.Message.{Message}
 use Rattle.pipes_stream.specs.declared.message.Message.TheVariants as message
 use Rattle.pipes_stream.specs.Lists.{elements}
-use Rattle.pipes_stream.specs.Lawful.{Lists, with_message}
 use Rattle.pipes_stream.proofs.Messages.{elements-append}
 use Rattle.pipes_coalesce.specs.Stands.{EndsBy, StartsFromSplit}
 use Rattle.pipes_seam.specs.Seams.{opening_of}
-use Rattle.pipes_plan.specs.declared.plan.Plan.{Plan}
-use Rattle.pipes_output.specs.declared.entry.Entry.{Entry}
-use Rattle.pipes_works.specs.Sources.{Reads}
-use Rattle.pipes_works.specs.Standing.{Puts, MayCome}
+use Rattle.pipes_works.specs.Standing.{Puts}
 use Rattle.pipes_written.specs.declared.output.Output.{Output}
-use Rattle.pipes_standing.specs.Calms.{Rows}
 use Rattle.pipes_moving.specs.declared.moving.Moving.{Moving}
-use Rattle.pipes_moving.specs.Moves.{IsMoving, AllStartFrom, split_of, first_of}
+use Rattle.pipes_moving.specs.Moves.{split_of, first_of}
 use Rattle.pipes_moving.specs.Steps.{TakesOld, TakesFresh, MayComeOld, MayComeFresh}
 
 message-ends : (split : ℕ) (m : Message) → EndsBy split m

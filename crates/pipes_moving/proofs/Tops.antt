@@ -1,11 +1,11 @@
 -- Where what comes to the top of a plan starts and ends.
-use Rattle.std.proofs.Common.{◌≡◌, ℕ, zero, suc, ◌+◌, ◌≤◌, ◌<◌, Bool, true, false, cond, nat_le}
+use Rattle.std.proofs.Common.{◌≡◌, ℕ, zero, suc, ◌≤◌, ◌<◌, Bool, true, false, cond, nat_le}
 use Rattle.std.proofs.Common.{min}
-use Rattle.std.proofs.Common.{List, [], ◌∷◌, ◌++◌, refl, ◌∙◌, ap, arith}
-use Rattle.std.specs.List.{All, Contains}
+use Rattle.std.proofs.Common.{List, [], ◌∷◌, refl, ◌∙◌, ap, arith}
+use Rattle.std.specs.List.{All}
+use Rattle.std.proofs.lemmas.Bool.{lt-leb}
 use Rattle.std.proofs.lemmas.List.Elements.{All-head, All-tail, All-contains, Contains-push}
-use Rattle.pipes_time.specs.Interval.{horizon, closed, IsInterval}
-use Rattle.pipes_tuple.specs.declared.value.Value.{Value}
+use Rattle.pipes_time.specs.Interval.{horizon, closed}
 use Rattle.pipes_tuple.specs.declared.value.Kind.{Kind}
 use Rattle.pipes_stream.specs.declared.Elem.{Elem}
 use Rattle.pipes_stream.specs.declared.message.Message.{Message}
@@ -17,7 +17,7 @@ use Rattle.pipes_coalesce.specs.Tests.{starts_below}
 use Rattle.pipes_coalesce.proofs.Touching.{not-lt}
 use Rattle.pipes_plan.specs.declared.plan.Plan.{Plan}
 use Rattle.pipes_box.specs.Prompt.{floors}
-use Rattle.pipes_works.specs.Sources.{Reads, IsCoveredBySource}
+use Rattle.pipes_works.specs.Sources.{IsCoveredBySource}
 use Rattle.pipes_moving.specs.Moves.{AllStartFrom}
 
 module _ (schemas : List (List Kind)) (plan : Plan) (by_source : Lists) where
@@ -60,3 +60,24 @@ rest-floors zero low = refl
 rest-floors (suc n) low =
     ap (λ (h : ℕ). floor h (rest_from low ∷ [])) (rest-floors n low)
     ∙ same-least (nat_le low horizon) low
+
+-- ---- at the end of time nothing is kept back
+
+-- an element that covers all that is ever valid
+abbrev pub all_time : Elem
+all_time = rest_from 0
+
+pub all-covers : (ms : List Message) → Valid ms → All (IsCovered (all_time ∷ [])) (elements ms)
+all-covers ms valid = rest-covers 0 ms valid (λ k e at. omega arith)
+
+floor-over : (h : ℕ) (e : Elem) → e.span.end < h → floor h (e ∷ []) ≡ h
+floor-over h e over =
+    let at : ◌≡◌ {A = ℕ} (cond (nat_le h e.span.end) e.span.start h) h =
+    rw (lt-leb _ _ over) refl in
+    omega (arith, at)
+
+pub all-floors : (n : ℕ) → floors n closed (all_time ∷ []) ≡ closed
+all-floors zero = refl
+all-floors (suc n) =
+    ap (λ (h : ℕ). floor h (all_time ∷ [])) (all-floors n)
+    ∙ floor-over closed all_time (omega arith)

@@ -1,18 +1,16 @@
 -- A plan is replaced: two plans are at work at once, and one list of entries is written.
-use Rattle.std.specs.Prelude.{◌≡◌, ◌⊎◌, ℕ, suc, ◌≤◌, ◌<◌, ◌+◌, max, Bool, true, false, List, []}
-use Rattle.std.specs.Prelude.{◌∷◌, ◌++◌}
+use Rattle.std.specs.Prelude.{◌≡◌, ◌⊎◌, ℕ, suc, ◌≤◌, ◌<◌, ◌+◌, max, List, []}
+use Rattle.std.specs.Prelude.{◌++◌}
 use Rattle.std.specs.Prelude.{slice_get, unwrap_or, vec_len, vec_capacity}
 use Rattle.std.specs.List.{All}
 use Rattle.pipes_time.specs.Interval.{horizon, closed}
-use Rattle.pipes_tuple.specs.declared.value.Value.{Value}
 use Rattle.pipes_tuple.specs.declared.value.Kind.{Kind}
 use Rattle.pipes_tuple.specs.Bag.{SameBag}
 use Rattle.pipes_stream.specs.declared.message.Message.{Message}
-use Rattle.pipes_stream.specs.declared.message.Message.TheVariants as message
 use Rattle.pipes_stream.specs.Snapshot.{snapshot}
-use Rattle.pipes_stream.specs.Lists.{run, start_of_list, beat, elements}
+use Rattle.pipes_stream.specs.Lists.{beat, elements}
 use Rattle.pipes_stream.specs.Lawful.{Lists}
-use Rattle.pipes_coalesce.specs.Stands.{CoalesceStands, EndsBy, StartsFromSplit}
+use Rattle.pipes_coalesce.specs.Stands.{CoalesceStands}
 use Rattle.pipes_seam.specs.Seams.{opening_of}
 use Rattle.pipes_plan.specs.declared.plan.Plan.{Plan}
 use Rattle.pipes_plan.specs.PlanKinds.{IsTyped}
@@ -21,7 +19,7 @@ use Rattle.pipes_semantics.specs.Written.{results, written_snapshot}
 use Rattle.pipes_box.specs.Shapes.{shape_of}
 use Rattle.pipes_box.specs.Prompt.{lag_of}
 use Rattle.pipes_works.specs.Sources.{Reads, AllReached, AllSourcesEnded}
-use Rattle.pipes_works.specs.Standing.{WorksStand, IsWhole, MayCome}
+use Rattle.pipes_works.specs.Standing.{WorksStand, IsWhole}
 use Rattle.pipes_written.specs.Written.{IsWritten}
 use Rattle.pipes_standing.specs.Calms.{Rows, AnswerAlike, AllEndBy, answer_of, kinds_of}
 use Rattle.pipes_moving.specs.declared.moving.Moving.{Moving}
@@ -106,15 +104,24 @@ abbrev pub lag_between : List (List Kind) → Plan → Plan → ℕ
 lag_between schemas before after =
     suc (max (lag_of (shape_of schemas before)) (lag_of (shape_of schemas after)))
 
+-- The output is no further than where it was at the beginning, or than what each source gave the
+-- old plan, and than what it gave the fresh one or the split.
+pub record IsNoFurther (m : Moving) (schemas : List (List Kind)) (before after : Plan)
+    (below from : Lists) : Type 0 where
+  pub old : (source : ℕ) → Reads schemas before source
+      → m.output.beat ≤ max (first_of m) (beat (below source))
+  pub fresh : (source : ℕ) → Reads schemas after source
+      → m.output.beat ≤ max (first_of m) (max (split_of m) (beat (from source)))
+
 -- The old plan may be told to be idle once the inputs have come to the split; and the change to be
 -- over once the output is above it too, or all has ended.
 abbrev pub IsOverAt : ℕ → ℕ → ℕ → Type 0
 IsOverAt split output inputs = (split ≤ inputs) × ((split < output) ⊎ (inputs ≡ closed))
 
 -- The old plan's sources have ended, the fresh plan's have come as far as the output was at the
--- beginning, and the output is above the split or these sources have ended too.
+-- beginning, and the output is above the split or these sources have come to the end too.
 pub record IsPassed (m : Moving) (schemas : List (List Kind)) (before after : Plan)
     (below from : Lists) : Type 0 where
   pub old_ended : AllSourcesEnded schemas before below
   pub reached : AllReached schemas after from (first_of m)
-  pub passed : (split_of m < m.output.beat) ⊎ AllSourcesEnded schemas after from
+  pub passed : (split_of m < m.output.beat) ⊎ AllReached schemas after from closed

@@ -1,5 +1,5 @@
 -- What the calls do while a plan is replaced.
-use Rattle.std.specs.Prelude.{◌≡◌, ℕ, ◌≤◌, ◌<◌, max, Bool, cond, nat_le, List, [], ◌∷◌, ◌++◌}
+use Rattle.std.specs.Prelude.{◌≡◌, ℕ, ◌≤◌, ◌<◌, max, Bool, cond, nat_le, List, [], ◌++◌}
 use Rattle.std.specs.Prelude.{◌⊎◌}
 use Rattle.std.specs.List.{All}
 use Rattle.pipes_time.specs.Interval.{closed}
@@ -18,6 +18,7 @@ use Rattle.pipes_works.specs.Standing.{WorksStand, WorksOff, MayCome, source_cou
 use Rattle.pipes_written.specs.Written.{results_of}
 use Rattle.pipes_standing.specs.declared.standing.Standing.{Standing}
 use Rattle.pipes_standing.specs.Calms.{Rows, AnswerAlike, AllFed, AllEndBy, Calm}
+use Rattle.pipes_standing.specs.Calms.{Advances}
 use Rattle.pipes_moving.specs.declared.moving.Moving.{Moving}
 use Rattle.pipes_moving.specs.declared.next.Next.{Next}
 use Rattle.pipes_moving.specs.Moves.{IsMoving, FedBelow, split_of, first_of}
@@ -85,16 +86,16 @@ pub record TakesBeat (old new : Moving) (source at : ℕ) (ended : Bool) : Type 
   pub below : TakesOld old between source (beat_below (split_of old) at)
   pub from : TakesFresh between new source (beat_from (split_of old) at ended)
 
--- The entry was made, which tells of a migration, and nothing else changed.
-pub record Tells (old new : Moving) (e : Entry) : Type 0 where
-  pub entries : MakesEntries old new (e ∷ [])
+-- These entries were made, which are no results, and nothing else changed.
+pub record Tells (old new : Moving) (more : List Entry) : Type 0 where
+  pub entries : MakesEntries old new more
   pub settled : IsSettled old → IsSettled new
   pub seam : new.seam ≡ old.seam
   pub beat : new.output.beat ≡ old.output.beat
   pub holds : (schemas : List (List Kind)) (before after : Plan) (rows : Rows) (base : ℕ)
       (below from : Lists) (entries : List Entry)
       → IsMoving old schemas before after rows base below from entries
-      → IsMoving new schemas before after rows base below from (entries ++ e ∷ [])
+      → IsMoving new schemas before after rows base below from (entries ++ more)
 
 -- Both plans were worked off; nothing is written yet.
 pub record WorksBothOff (old new : Moving) : Type 0 where
@@ -106,11 +107,11 @@ pub record WorksBothOff (old new : Moving) : Type 0 where
   pub seam : new.seam ≡ old.seam
   pub output : new.output ≡ old.output
 
--- What came to the tops was written, merged at the split and in order, and then these entries.
-pub record Settles (old new : Moving) (last : ℕ → List Entry) : Type 0 where
+-- What came to the tops was written, merged at the split and in order.
+pub record Settles (old new : Moving) : Type 0 where
   -- what the output took of it
   pub sent : List Message
-  pub entries : MakesEntries old new (results_of sent ++ last new.output.beat)
+  pub entries : MakesEntries old new (results_of sent)
   pub settled : IsSettled new
   pub split : split_of new ≡ split_of old
   pub first : first_of new ≡ first_of old
@@ -119,8 +120,11 @@ pub record Settles (old new : Moving) (last : ℕ → List Entry) : Type 0 where
       → IsMoving old schemas before after rows base below from entries
       → FedBelow schemas before rows base (split_of old) below
       → AllFed schemas after rows (split_of old) from
-      → IsMoving new schemas before after rows base below from
-      (entries ++ (results_of sent ++ last new.output.beat))
+      → IsMoving new schemas before after rows base below from (entries ++ results_of sent)
+  pub advances : (schemas : List (List Kind)) (before after : Plan) (rows : Rows) (base : ℕ)
+      (below from : Lists) (entries : List Entry)
+      → IsMoving old schemas before after rows base below from entries
+      → Advances old.output.beat new.output.beat sent
   -- no result ends above an instant by which all ends that the sources gave
   pub ends : (schemas : List (List Kind)) (before after : Plan) (rows : Rows) (base : ℕ)
       (below from : Lists) (entries : List Entry)
@@ -128,15 +132,12 @@ pub record Settles (old new : Moving) (last : ℕ → List Entry) : Type 0 where
       → AllEndBy schemas before instant below → AllEndBy schemas after instant from
       → All (λ e. e.span.end ≤ instant) (elements sent)
 
--- no entry more
-abbrev pub nothing_more : ℕ → List Entry
-nothing_more output = []
-
 -- A plan that is ready began to take the place of another one, where all that came was written, at
 -- a split that no element and no result reaches, and that is not below the one before it.
 pub record Begins (standing : Standing) (next : Next) (split : ℕ) (m : Moving) : Type 0 where
   pub split_is : split_of m ≡ split
   pub first_is : first_of m ≡ standing.output.beat
+  pub beat : m.output.beat ≡ standing.output.beat
   pub entries : m.output.entries.items ≡ standing.output.entries.items
   pub moves : (schemas : List (List Kind)) (before after : Plan) (rows : Rows) (base : ℕ)
       (below : Lists) (got : List Message) (entries : List Entry)

@@ -20,8 +20,9 @@ ghost use Rattle.pipes_box.specs.Prompt.{floors};
 ghost use Rattle.pipes_works.specs.Sources.{AllSourcesEnded, AllReached, AllWithin};
 ghost use Rattle.pipes_stream.specs.declared.Elem.{Elem as Lasting};
 ghost use Rattle.pipes_works.specs.Standing.{IsWhole, source_count};
-ghost use Rattle.pipes_written.specs.Made.{last_entry, drained, HasRoom, TellsMove};
+ghost use Rattle.pipes_written.specs.Made.{last_entry, drained, TellsMove};
 ghost use Rattle.pipes_standing.specs.Calms.{Calm, Rows, AnswerAlike};
+ghost use Rattle.pipes_standing.specs.Calms.{IsSettled as IsSettledStanding};
 ghost use Rattle.pipes_stream.specs.declared.message.Message.TheVariants as variant;
 ghost use Rattle.pipes_seam.specs.Seams.{end_of};
 
@@ -53,9 +54,9 @@ pub struct Moving {
 
 impl Moving {
     ghost use Rattle.pipes_moving.specs.Moves.{IsMoving, IsReady, IsWholeMoving, IsPassed};
-    ghost use Rattle.pipes_moving.specs.Moves.{split_of, first_of, IsOverAt, lag_between};
+    ghost use Rattle.pipes_moving.specs.Moves.{split_of, IsOverAt, lag_between, IsNoFurther};
     ghost use Rattle.pipes_moving.specs.Steps.{MakesEntries, IsSettled, TakesOld, TakesFresh};
-    ghost use Rattle.pipes_moving.specs.Steps.{WorksBothOff, Settles, nothing_more, Begins};
+    ghost use Rattle.pipes_moving.specs.Steps.{WorksBothOff, Settles, Begins};
     ghost use Rattle.pipes_moving.specs.Steps.{MayComeOld, MayComeFresh, CountsStay, TakesBeat};
     ghost use Rattle.pipes_moving.specs.Steps.{Tells};
 
@@ -248,16 +249,14 @@ impl Moving {
         Ok(())
     }
 
-    // Writes what came to the tops, where nothing is on its way. There is room for so many more
-    // entries then.
-    fn write_tops(&mut self, room: usize) -> Result<(), Memory>
+    // Writes what came to the tops, where nothing is on its way.
+    fn write_tops(&mut self) -> Result<(), Memory>
         requires whole { IsWholeMoving self.old }
         requires old_still { IsStill self.old.old_works.plan_box }
         requires fresh_still { IsStill self.old.fresh_works.plan_box }
         ensures works { self.new.old_works ≡ self.old.old_works }
         ensures fresh { self.new.fresh_works ≡ self.old.fresh_works }
-        ensures settles { OnOk result (Settles self.old self.new nothing_more) }
-        ensures room { OnOk result (HasRoom self.new.output room) }
+        ensures settles { OnOk result (Settles self.old self.new) }
         ensures entries { OnErr result (MakesEntries self.old self.new []) }
         ensures failed { self.new.failed ≡ self.old.failed }
     {
@@ -269,35 +268,7 @@ impl Moving {
         self.old_works.keeps_up();
         self.fresh_works.answers();
         self.fresh_works.keeps_up();
-        self.output.write(&mut sent, room)?;
-        Ok(())
-    }
-
-    // Works both plans off, and writes what came to the tops. There is room for so many more
-    // entries then.
-    fn settle_for<R: Threads + Sync, G: Gate>(
-        &mut self,
-        rt: &R,
-        gate: &G,
-        room: usize,
-    ) -> Result<(), Memory>
-        requires { IsWholeMoving self.old }
-        ensures whole { IsWholeMoving self.new }
-        ensures count { CountsStay self.old self.new }
-        ensures settles { OnOk result (Settles self.old self.new nothing_more) }
-        ensures room { OnOk result (HasRoom self.new.output room) }
-        ensures entries { OnErr result (MakesEntries self.old self.new []) }
-        ensures memory { OnErr result (self.new.failed ≡ true) }
-        ensures stays_failed { OnTrue self.old.failed (IsErr result) }
-        ensures going { OnOk result (self.new.failed ≡ false) }
-    {
-        if self.failed {
-            return Err(Memory);
-        }
-        self.failed = true;
-        self.work_both_off(rt, gate)?;
-        self.write_tops(room)?;
-        self.failed = false;
+        self.output.write(&mut sent, 0)?;
         Ok(())
     }
 
@@ -308,54 +279,18 @@ impl Moving {
         requires { IsWholeMoving self.old }
         ensures whole { IsWholeMoving self.new }
         ensures count { CountsStay self.old self.new }
-        ensures settles { OnOk result (Settles self.old self.new nothing_more) }
+        ensures settles { OnOk result (Settles self.old self.new) }
         ensures entries { OnErr result (MakesEntries self.old self.new []) }
         ensures memory { OnErr result (self.new.failed ≡ true) }
         ensures stays_failed { OnTrue self.old.failed (IsErr result) }
     {
-        self.settle_for(rt, gate, 0)
-    }
-
-    /// Settles, and then tells the heartbeat of the output, and with it that of the inputs, which
-    /// the caller knows. Out of memory nothing is written, and each later call answers it.
-    pub fn drain<R: Threads + Sync, G: Gate>(
-        &mut self,
-        rt: &R,
-        gate: &G,
-        inputs: u64,
-    ) -> Result<(), Memory>
-        requires { IsWholeMoving self.old }
-        ensures whole { IsWholeMoving self.new }
-        ensures count { CountsStay self.old self.new }
-        ensures settles { OnOk result (Settles self.old self.new (drained inputs)) }
-        ensures entries { OnErr result (MakesEntries self.old self.new []) }
-        ensures memory { OnErr result (self.new.failed ≡ true) }
-        ensures stays_failed { OnTrue self.old.failed (IsErr result) }
-    {
-        self.settle_for(rt, gate, 2)?;
-        self.output.drain(inputs);
-        Ok(())
-    }
-
-    /// Settles, and then tells that the run has ended, or was stopped. Out of memory nothing is
-    /// written, and each later call answers it.
-    pub fn finish<R: Threads + Sync, G: Gate>(
-        &mut self,
-        rt: &R,
-        gate: &G,
-        stopped: bool,
-    ) -> Result<(), Memory>
-        requires { IsWholeMoving self.old }
-        ensures whole { IsWholeMoving self.new }
-        ensures count { CountsStay self.old self.new }
-        ensures settles { OnOk result
-            (Settles self.old self.new (λ output. last_entry stopped ∷ [])) }
-        ensures entries { OnErr result (MakesEntries self.old self.new []) }
-        ensures memory { OnErr result (self.new.failed ≡ true) }
-        ensures stays_failed { OnTrue self.old.failed (IsErr result) }
-    {
-        self.settle_for(rt, gate, 1)?;
-        self.output.end(stopped);
+        if self.failed {
+            return Err(Memory);
+        }
+        self.failed = true;
+        self.work_both_off(rt, gate)?;
+        self.write_tops()?;
+        self.failed = false;
         Ok(())
     }
 
@@ -366,7 +301,7 @@ impl Moving {
         requires of_move { TellsMove entry }
         ensures whole { IsWholeMoving self.new }
         ensures count { CountsStay self.old self.new }
-        ensures tells { OnOk result (Tells self.old self.new entry) }
+        ensures tells { OnOk result (Tells self.old self.new (entry ∷ [])) }
         ensures entries { OnErr result (MakesEntries self.old self.new []) }
         ensures memory { OnErr result (self.new.failed ≡ true) }
         ensures stays_failed { OnTrue self.old.failed (IsErr result) }
@@ -377,6 +312,49 @@ impl Moving {
         self.failed = true;
         self.output.reserve(1)?;
         self.output.tell(entry);
+        self.failed = false;
+        Ok(())
+    }
+
+    /// Tells the heartbeat of the output, and that a drain is done with the inputs at this
+    /// heartbeat. Out of memory nothing is told, and each later call answers it.
+    pub fn tell_drain(&mut self, inputs: u64) -> Result<(), Memory>
+        requires { IsWholeMoving self.old }
+        ensures whole { IsWholeMoving self.new }
+        ensures count { CountsStay self.old self.new }
+        ensures tells { OnOk result
+            (Tells self.old self.new (drained inputs self.old.output.beat)) }
+        ensures entries { OnErr result (MakesEntries self.old self.new []) }
+        ensures memory { OnErr result (self.new.failed ≡ true) }
+        ensures stays_failed { OnTrue self.old.failed (IsErr result) }
+    {
+        if self.failed {
+            return Err(Memory);
+        }
+        self.failed = true;
+        self.output.reserve(2)?;
+        self.output.drain(inputs);
+        self.failed = false;
+        Ok(())
+    }
+
+    /// Tells that the run has ended, or was stopped. Out of memory nothing is told, and each later
+    /// call answers it.
+    pub fn tell_end(&mut self, stopped: bool) -> Result<(), Memory>
+        requires { IsWholeMoving self.old }
+        ensures whole { IsWholeMoving self.new }
+        ensures count { CountsStay self.old self.new }
+        ensures tells { OnOk result (Tells self.old self.new (last_entry stopped ∷ [])) }
+        ensures entries { OnErr result (MakesEntries self.old self.new []) }
+        ensures memory { OnErr result (self.new.failed ≡ true) }
+        ensures stays_failed { OnTrue self.old.failed (IsErr result) }
+    {
+        if self.failed {
+            return Err(Memory);
+        }
+        self.failed = true;
+        self.output.reserve(1)?;
+        self.output.end(stopped);
         self.failed = false;
         Ok(())
     }
@@ -399,8 +377,9 @@ impl Moving {
     }
 
     /// Once settled, after the end of all that the old plan is given it keeps no element. The
-    /// output is kept back by no more than the elements that reach as far as the sources have come,
-    /// and after the end of all sources it has ended. A law, and nothing to run.
+    /// output is no further than the sources, and kept back by no more than the elements that reach
+    /// as far as they have come; once all have come to the end, so has the output. A law, and
+    /// nothing to run.
     pub fn keeps_up(&self)
         requires whole { IsWholeMoving self.now }
         requires settled { IsSettled self.now }
@@ -418,8 +397,12 @@ impl Moving {
         ensures ends { (schemas : List (List Kind)) (before after : Tree) (rows : Rows)
             (base : ℕ) (below from : Lists) (entries : List Line)
             → IsMoving self.now schemas before after rows base below from entries
-            → AllSourcesEnded schemas before below → AllSourcesEnded schemas after from
+            → AllReached schemas before below closed → AllReached schemas after from closed
             → self.now.output.beat ≡ closed }
+        ensures no_further { (schemas : List (List Kind)) (before after : Tree) (rows : Rows)
+            (base : ℕ) (below from : Lists) (entries : List Line)
+            → IsMoving self.now schemas before after rows base below from entries
+            → IsNoFurther self.now schemas before after below from }
     {
         self.seam.held();
         self.old_works.answers();
@@ -448,6 +431,7 @@ impl Moving {
         ensures count { source_count result.works ≡ source_count self.fresh_works }
         ensures beat { result.output.beat ≡ self.output.beat }
         ensures entries { result.output.entries.items ≡ self.output.entries.items }
+        ensures settled { IsSettledStanding result }
         ensures failed { result.failed ≡ self.failed }
         ensures calm { (schemas : List (List Kind)) (before after : Tree) (rows : Rows)
             (base : ℕ) (below from : Lists) (entries : List Line)

@@ -1,9 +1,9 @@
 // A plan that is ready to take the place of another.
-ghost use Rattle.std.specs.Prelude.{◌≡◌, ◌≤◌, [], IfOk, false};
+ghost use Rattle.std.specs.Prelude.{◌≡◌, ◌≤◌, [], IfOk, false, length};
 ghost use Rattle.pipes_stream.specs.Lawful.{no_messages};
 ghost use Rattle.pipes_plan.specs.PlanKinds.{IsTyped};
 ghost use Rattle.pipes_plan.specs.Refusals.{Checks};
-ghost use Rattle.pipes_works.specs.Standing.{IsWhole, WorksStand};
+ghost use Rattle.pipes_works.specs.Standing.{IsWhole, WorksStand, source_count};
 
 use pipes_plan::{Plan, Schemas};
 use pipes_stream::Message;
@@ -31,6 +31,7 @@ impl Next {
         requires most { workers ≤ 16 }
         ensures ready { IfOk result (λ n. IsReady n) }
         ensures stands { IfOk result (λ n. WorksStand n.works schemas.now plan.now no_messages []) }
+        ensures count { IfOk result (λ n. source_count n.works ≡ length schemas.now) }
     {
         let works = Works::new(alloc, plan, schemas, workers)?;
         let mut opening = Vec::new(alloc);

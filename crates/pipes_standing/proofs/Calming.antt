@@ -2,9 +2,10 @@
 use Rattle.std.proofs.Common.{◌≡◌, ℕ, ◌≤◌, ◌<◌, List, [], ◌++◌, unwrap_or}
 use Rattle.std.proofs.Common.{Option, refl, sym, ◌∙◌, ap, subst, arith, append_assoc}
 use Rattle.std.proofs.Common.{append-nil}
-use Rattle.std.proofs.Common.{◌∷◌, inl, inr}
+use Rattle.std.proofs.Common.{◌∷◌, inl, inr, Bool, true, false}
 use Rattle.std.specs.List.{All}
 use Rattle.std.proofs.lemmas.List.Elements.{All-weaker, All-contains}
+use Rattle.pipes_time.specs.Interval.{closed}
 use Rattle.pipes_tuple.specs.declared.value.Value.{Value}
 use Rattle.pipes_tuple.specs.declared.value.Kind.{Kind}
 use Rattle.pipes_tuple.specs.Kinds.{Fits}
@@ -14,12 +15,12 @@ use Rattle.pipes_stream.specs.declared.Elem.{Elem}
 use Rattle.pipes_stream.specs.declared.message.Message.{Message}
 use Rattle.pipes_stream.specs.Progress.{Progress}
 use Rattle.pipes_stream.specs.Snapshot.{snapshot}
-use Rattle.pipes_stream.specs.Lists.{run, start_of_list, Valid, beat, elements}
+use Rattle.pipes_stream.specs.Lists.{run, start_of_list, Valid, ValidFrom, beat, elements}
 use Rattle.pipes_stream.specs.Lawful.{Lists, no_messages}
 use Rattle.pipes_stream.proofs.Messages.{run-append, run-rises, valid-prefix, valid-suffix}
 use Rattle.pipes_stream.proofs.Messages.{elements-append, beat-closed, beat-ended}
 use Rattle.pipes_stream.proofs.Ports.{All-parts}
-use Rattle.pipes_stream.proofs.Snapshots.{snapshot-append}
+use Rattle.pipes_stream.proofs.Snapshots.{snapshot-append, starts-from}
 use Rattle.pipes_plan.specs.declared.plan.Plan.{Plan}
 use Rattle.pipes_plan.specs.PlanKinds.{IsTyped}
 use Rattle.pipes_output.specs.declared.entry.Entry.{Entry}
@@ -31,12 +32,12 @@ use Rattle.pipes_works.specs.Sources.{IsCoveredBySource}
 use Rattle.pipes_works.specs.Standing.{WorksStand, MayCome, Puts}
 use Rattle.pipes_written.specs.declared.output.Output.{Output}
 use Rattle.pipes_written.specs.Written.{Answers, IsWritten, Continues, results_of, level_after}
-use Rattle.pipes_written.specs.Made.{Made, Adds, TellsMove}
+use Rattle.pipes_written.specs.Made.{Made, Adds, TellsMove, last_entry, drained}
 use Rattle.pipes_written.proofs.Splits.{results-append, results-map}
 use Rattle.pipes_written.proofs.Writes.{level-is}
 use Rattle.pipes_standing.specs.declared.standing.Standing.{Standing}
 use Rattle.pipes_standing.specs.Calms.{Rows, AllFed, AllEndBy, answer_of, kinds_of, Calm}
-use Rattle.pipes_standing.specs.Calms.{IsUpToDate, TakesIn, Settles, nothing_more}
+use Rattle.pipes_standing.specs.Calms.{IsUpToDate, TakesIn, Advances, Settles}
 use Rattle.pipes_standing.specs.Calms.{Tells}
 
 -- bags of which both parts are the same
@@ -61,6 +62,17 @@ top-ends schemas plan by_source got instant answers ends =
       All-contains (λ (d : Elem). d.span.end ≤ instant) (elements (by_source c.0)) c.2.0
           (ends c.0 c.1) c.2.1,
     )) (elements got) answers.spans
+
+-- what may be sent to the output starts where that is or later
+pub sent-advances : (p : Progress) (sent : List Message) (was now : ℕ) → ValidFrom p sent
+    → p.beat ≤ closed → p.beat ≡ was → now ≡ level_after was sent → Advances was now sent
+sent-advances p sent was now valid most here there =
+    let up = (run-rises p sent valid most).0 in
+    let level = level-is p was sent here in record {
+      rises = omega (arith, here, up, level, there);
+      starts = All-weaker (λ (e : Elem). p.beat ≤ e.span.start) (λ (e : Elem). was ≤ e.span.start)
+          (λ e from. omega (arith, here, from)) (elements sent) (starts-from p sent valid most);
+    }
 
 module _ (schemas : List (List Kind)) (plan : Plan) (rows : Rows) (base : ℕ) (by_source : Lists)
     (got : List Message) (entries : List Entry) (old : Standing)
@@ -279,11 +291,10 @@ pub settles : (old new : Standing) (more sent : List Message) → sent ≡ old.s
     → IsWritten kinds answer old.output.beat entries
     → Continues kinds answer old.output.beat entries sent
     → IsWritten kinds answer new.output.beat (entries ++ results_of sent))
-    → Settles old new nothing_more
+    → Settles old new
 settles old new more sent is works answers keeps still empty made written = record {
   sent = sent;
-  entries = made.entries ∙ ap (λ (l : List Entry). old.output.entries.items ++ l)
-      (sym (append-nil (results_of sent)));
+  entries = made.entries;
   settled = record { still = still; nothing_sent = empty };
   holds = λ schemas plan rows base by_source got entries calm fed.
       let stands = works schemas plan by_source got calm.works in
@@ -301,67 +312,35 @@ settles old new more sent is works answers keeps still empty made written = reco
       let now = calm-settled schemas plan rows base by_source got entries old calm fed more answer
       reached new empty (made.beat ∙ ap (level_after old.output.beat) is) stands before in (
         got ++ more,
-        subst (λ (l : List Entry). Calm new schemas plan rows base by_source (got ++ more)
-            (entries ++ l)) (sym (append-nil (results_of sent)))
-            (subst (λ (l : List Message). Calm new schemas plan rows base by_source (got ++ more)
-            (entries ++ results_of l)) (sym is) now),
+        subst (λ (l : List Message). Calm new schemas plan rows base by_source (got ++ more)
+            (entries ++ results_of l)) (sym is) now,
       );
+  advances = λ schemas plan rows base by_source got entries calm.
+      let valid : Valid (calm.seen ++ sent) = subst Valid (parts calm)
+      (answers schemas plan by_source (got ++ more)
+      (works schemas plan by_source got calm.works)).valid in
+      sent-advances (run start_of_list calm.seen) sent old.output.beat new.output.beat
+      (valid-suffix start_of_list calm.seen sent valid)
+      (beat-closed calm.seen (valid-prefix start_of_list calm.seen sent valid))
+      (sym calm.beat_is) made.beat;
   ends = λ schemas plan rows base by_source got entries calm instant ends.
-      let stands = works schemas plan by_source got calm.works in
       let all = top-ends schemas plan by_source (got ++ more) instant
-      (answers schemas plan by_source (got ++ more) stands) ends in
-      let parts : elements (got ++ more) ≡ elements calm.seen ++ elements sent =
-      ap elements (ap (λ (l : List Message). l ++ more) calm.got_is
-      ∙ append_assoc calm.seen old.sent.items more
-      ∙ ap (λ (l : List Message). calm.seen ++ l) (sym is))
-      ∙ elements-append calm.seen sent in
+      (answers schemas plan by_source (got ++ more)
+      (works schemas plan by_source got calm.works)) ends in
       (All-parts (λ (e : Elem). e.span.end ≤ instant) (elements calm.seen) (elements sent)
-      (subst (All (λ e. e.span.end ≤ instant)) parts all)).1;
+      (subst (All (λ e. e.span.end ≤ instant))
+      (ap elements (parts calm) ∙ elements-append calm.seen sent) all)).1;
 }
+  where
+    parts : {schemas : List (List Kind)} {plan : Plan} {rows : Rows} {base : ℕ}
+        {by_source : Lists} {got : List Message} {entries : List Entry}
+        → (calm : Calm old schemas plan rows base by_source got entries)
+        → got ++ more ≡ calm.seen ++ sent
+    parts calm = ap (λ (l : List Message). l ++ more) calm.got_is
+        ∙ append_assoc calm.seen old.sent.items more
+        ∙ ap (λ (l : List Message). calm.seen ++ l) (sym is)
 
--- and then entries that are no results
-pub settles-then : (old mid new : Standing) (last : ℕ → List Entry)
-    → ((output : ℕ) → results (last output) ≡ []) → Settles old mid nothing_more
-    → new.works ≡ mid.works → new.sent ≡ mid.sent
-    → Adds mid.output new.output (last mid.output.beat)
-    → ((kinds : List Kind) (answer : Answers) (entries : List Entry)
-    → IsWritten kinds answer mid.output.beat entries
-    → IsWritten kinds answer new.output.beat (entries ++ last mid.output.beat))
-    → Settles old new last
-settles-then old mid new last none s works sent adds written =
-    let same : last new.output.beat ≡ last mid.output.beat = ap last adds.beat in
-    record {
-      sent = s.sent;
-      entries = adds.entries
-          ∙ ap (λ (l : List Entry). l ++ last mid.output.beat)
-          (s.entries ∙ ap (λ (l : List Entry). old.output.entries.items ++ l)
-          (append-nil (results_of s.sent)))
-          ∙ append_assoc old.output.entries.items (results_of s.sent) (last mid.output.beat)
-          ∙ ap (λ (l : List Entry). old.output.entries.items ++ (results_of s.sent ++ l))
-          (sym same);
-      settled = record {
-        still = rw works s.settled.still;
-        nothing_sent = rw sent s.settled.nothing_sent;
-      };
-      holds = λ schemas plan rows base by_source got entries calm fed.
-          let r = s.holds schemas plan rows base by_source got entries calm fed in
-          let first : Calm mid schemas plan rows base by_source r.0
-          (entries ++ results_of s.sent) =
-          subst (λ (l : List Entry). Calm mid schemas plan rows base by_source r.0 (entries ++ l))
-          (append-nil (results_of s.sent)) r.1 in (
-            r.0,
-            subst (λ (l : List Entry). Calm new schemas plan rows base by_source r.0 l)
-                (append_assoc entries (results_of s.sent) (last mid.output.beat)
-                ∙ ap (λ (l : List Entry). entries ++ (results_of s.sent ++ l)) (sym same))
-                (calm-more schemas plan rows base by_source r.0 (entries ++ results_of s.sent)
-                (last mid.output.beat) mid new works sent adds.beat (none mid.output.beat)
-                (written (kinds_of schemas plan) (answer_of plan rows)
-                (entries ++ results_of s.sent)) first),
-          );
-      ends = s.ends;
-    }
-
-no-result : (e : Entry) → TellsMove e → results (e ∷ []) ≡ []
+pub no-result : (e : Entry) → TellsMove e → results (e ∷ []) ≡ []
 no-result (entry.Result e) t = absurd t
 no-result (entry.Beat h) t = absurd t
 no-result (entry.Accepted number split) t = refl
@@ -372,20 +351,34 @@ no-result (entry.Drained inputs output) t = absurd t
 no-result entry.Ended t = absurd t
 no-result entry.Stopped t = absurd t
 
--- an entry that tells of a migration was made, where room was made before
-pub tells : (old new : Standing) (mid : Output) (e : Entry) → new.works ≡ old.works
-    → new.sent ≡ old.sent → TellsMove e → Adds old.output mid [] → Adds mid new.output (e ∷ [])
+pub no-end : (stopped : Bool) → results (last_entry stopped ∷ []) ≡ []
+no-end true = refl
+no-end false = refl
+
+-- entries that are no results were made, where room was made before
+pub tells : (old new : Standing) (mid : Output) (more : List Entry) → new.works ≡ old.works
+    → new.sent ≡ old.sent → results more ≡ [] → Adds old.output mid [] → Adds mid new.output more
     → ((kinds : List Kind) (answer : Answers) (entries : List Entry)
     → IsWritten kinds answer mid.beat entries
-    → IsWritten kinds answer new.output.beat (entries ++ e ∷ []))
-    → Tells old new e
-tells old new mid e works sent of_move first adds written = record {
-  entries = adds.entries ∙ ap (λ (l : List Entry). l ++ e ∷ [])
+    → IsWritten kinds answer new.output.beat (entries ++ more))
+    → Tells old new more
+tells old new mid more works sent none first adds written = record {
+  entries = adds.entries ∙ ap (λ (l : List Entry). l ++ more)
       (first.entries ∙ append-nil old.output.entries.items);
   settled = λ s. record { still = rw works s.still; nothing_sent = rw sent s.nothing_sent };
   beat = adds.beat ∙ first.beat;
   holds = λ schemas plan rows base by_source got entries calm.
-      calm-more schemas plan rows base by_source got entries (e ∷ []) old new works sent
-      (adds.beat ∙ first.beat) (no-result e of_move)
+      calm-more schemas plan rows base by_source got entries more old new works sent
+      (adds.beat ∙ first.beat) none
       (λ w. written (kinds_of schemas plan) (answer_of plan rows) entries (rw first.beat w)) calm;
 }
+
+pub tells-drain : (old new : Standing) (mid : Output) (inputs : ℕ) → new.works ≡ old.works
+    → new.sent ≡ old.sent → Adds old.output mid [] → Adds mid new.output (drained inputs mid.beat)
+    → ((kinds : List Kind) (answer : Answers) (entries : List Entry)
+    → IsWritten kinds answer mid.beat entries
+    → IsWritten kinds answer new.output.beat (entries ++ drained inputs mid.beat))
+    → Tells old new (drained inputs old.output.beat)
+tells-drain old new mid inputs works sent first adds written =
+    subst (λ (at : ℕ). Tells old new (drained inputs at)) first.beat
+    (tells old new mid (drained inputs mid.beat) works sent refl first adds written)

@@ -1,6 +1,6 @@
 -- A standing query: a plan at work over its sources, and what was written of its answer.
 use Rattle.std.specs.Prelude.{◌≡◌, ℕ, ◌≤◌, ◌<◌, List, [], ◌++◌, slice_get, unwrap_or}
-use Rattle.std.specs.Prelude.{◌⊎◌, ◌∷◌}
+use Rattle.std.specs.Prelude.{◌⊎◌}
 use Rattle.std.specs.List.{All}
 use Rattle.pipes_time.specs.Interval.{horizon, closed}
 use Rattle.pipes_tuple.specs.declared.value.Value.{Value}
@@ -90,39 +90,43 @@ pub record TakesIn (old new : Standing) (source : ℕ) (m : Message) : Type 0 wh
   pub passed_over : (MayCome old.works source m → ⊥) → new ≡ old
   pub may : MayCome old.works source m ⊎ (MayCome old.works source m → ⊥)
 
--- The entry was made, which tells of a migration, and nothing else changed.
-pub record Tells (old new : Standing) (e : Entry) : Type 0 where
-  pub entries : MakesEntries old new (e ∷ [])
+-- These entries were made, which are no results, and nothing else changed.
+pub record Tells (old new : Standing) (more : List Entry) : Type 0 where
+  pub entries : MakesEntries old new more
   pub settled : IsSettled old → IsSettled new
   pub beat : new.output.beat ≡ old.output.beat
   pub holds : (schemas : List (List Kind)) (plan : Plan) (rows : Rows) (base : ℕ)
       (by_source : Lists) (got : List Message) (entries : List Entry)
       → Calm old schemas plan rows base by_source got entries
-      → Calm new schemas plan rows base by_source got (entries ++ e ∷ [])
+      → Calm new schemas plan rows base by_source got (entries ++ more)
 
--- What came to the top was written, in order, and then these entries.
-pub record Settles (old new : Standing) (last : ℕ → List Entry) : Type 0 where
+-- The output came from one heartbeat to another, and what it took starts at the first or later.
+pub record Advances (was now : ℕ) (sent : List Message) : Type 0 where
+  pub rises : was ≤ now
+  pub starts : All (λ e. was ≤ e.span.start) (elements sent)
+
+-- What came to the top was written, in order.
+pub record Settles (old new : Standing) : Type 0 where
   -- what came to the top since the last time
   pub sent : List Message
-  pub entries : MakesEntries old new (results_of sent ++ last new.output.beat)
+  pub entries : MakesEntries old new (results_of sent)
   pub settled : IsSettled new
   pub holds : (schemas : List (List Kind)) (plan : Plan) (rows : Rows) (base : ℕ)
       (by_source : Lists) (got : List Message) (entries : List Entry)
       → Calm old schemas plan rows base by_source got entries
       → AllFed schemas plan rows base by_source
       → (now : List Message)
-      × Calm new schemas plan rows base by_source now
-      (entries ++ (results_of sent ++ last new.output.beat))
+      × Calm new schemas plan rows base by_source now (entries ++ results_of sent)
+  pub advances : (schemas : List (List Kind)) (plan : Plan) (rows : Rows) (base : ℕ)
+      (by_source : Lists) (got : List Message) (entries : List Entry)
+      → Calm old schemas plan rows base by_source got entries
+      → Advances old.output.beat new.output.beat sent
   -- no result ends above an instant by which all ends that the sources gave
   pub ends : (schemas : List (List Kind)) (plan : Plan) (rows : Rows) (base : ℕ)
       (by_source : Lists) (got : List Message) (entries : List Entry)
       → Calm old schemas plan rows base by_source got entries → (instant : ℕ)
       → AllEndBy schemas plan instant by_source
       → All (λ e. e.span.end ≤ instant) (elements sent)
-
--- no entry more
-abbrev pub nothing_more : ℕ → List Entry
-nothing_more output = []
 
 -- The output has come as far as the sources: it is kept back by no more than the elements that
 -- reach there, and not at all where no operator lags; and to the end, once all sources have ended.

@@ -18,7 +18,7 @@ ghost use Rattle.pipes_semantics.specs.Right.{Final, Right};
 ghost use Rattle.pipes_box.specs.Boxes.{all_held};
 ghost use Rattle.pipes_works.specs.Sources.{AllSourcesEnded};
 ghost use Rattle.pipes_works.specs.Standing.{IsWhole, WorksStand, MayCome, source_count};
-ghost use Rattle.pipes_written.specs.Made.{last_entry, drained, HasRoom, TellsMove};
+ghost use Rattle.pipes_written.specs.Made.{last_entry, drained, TellsMove};
 
 use pipes_edge::Gate;
 use pipes_output::Entry;
@@ -50,13 +50,13 @@ pub struct Parts {
     pub sent: Vec<Message>,
     /// What was written.
     pub output: Output,
-    /// Whether memory was wanting once, so that each later call answers that.
+    /// Whether a call was out of memory once, so that each later one answers that.
     pub failed: bool,
 }
 
 impl Standing {
     ghost use Rattle.pipes_standing.specs.Calms.{Calm, Rows, IsSettled, TakesIn, Settles};
-    ghost use Rattle.pipes_standing.specs.Calms.{MakesEntries, nothing_more, IsUpToDate};
+    ghost use Rattle.pipes_standing.specs.Calms.{MakesEntries, IsUpToDate};
     ghost use Rattle.pipes_standing.specs.Calms.{AnswerAlike, Tells};
 
     /// The plan at work over sources with these schemas, by at most so many workers. Nothing has
@@ -75,6 +75,7 @@ impl Standing {
         ensures calm { IfOk result (λ s. (rows : Rows)
             → Calm s schemas.now plan.now rows 0 no_messages [] []) }
         ensures none { IfOk result (λ s. s.output.entries.items ≡ []) }
+        ensures start { IfOk result (λ s. s.output.beat ≡ 0) }
     {
         let works = Works::new(alloc, plan, schemas, workers)?;
         Ok(Standing {
@@ -170,22 +171,16 @@ impl Standing {
         Ok(())
     }
 
-    // Works off, and writes what came to the top. There is room for so many more entries.
-    fn settle_for<R: Threads + Sync, G: Gate>(
-        &mut self,
-        rt: &R,
-        gate: &G,
-        room: usize,
-    ) -> Result<(), Memory>
+    /// Works until nothing is on its way, and writes a result for each element that came to the
+    /// top, in order. Out of memory nothing is written, and each later call answers it.
+    pub fn settle<R: Threads + Sync, G: Gate>(&mut self, rt: &R, gate: &G) -> Result<(), Memory>
         requires { IsWhole self.old.works }
         ensures whole { IsWhole self.new.works }
         ensures count { source_count self.new.works ≡ source_count self.old.works }
-        ensures settles { OnOk result (Settles self.old self.new nothing_more) }
-        ensures room { OnOk result (HasRoom self.new.output room) }
+        ensures settles { OnOk result (Settles self.old self.new) }
         ensures entries { OnErr result (MakesEntries self.old self.new []) }
         ensures memory { OnErr result (self.new.failed ≡ true) }
         ensures stays_failed { OnTrue self.old.failed (IsErr result) }
-        ensures going { OnOk result (self.new.failed ≡ false) }
     {
         if self.failed {
             return Err(Memory);
@@ -194,61 +189,8 @@ impl Standing {
         self.works.work_off(rt, gate, &mut self.sent)?;
         self.works.answers();
         self.works.keeps_up();
-        self.output.write(&mut self.sent, room)?;
+        self.output.write(&mut self.sent, 0)?;
         self.failed = false;
-        Ok(())
-    }
-
-    /// Works until nothing is on its way, and writes a result for each element that came to the
-    /// top, in order. Out of memory nothing is written, and each later call answers it.
-    pub fn settle<R: Threads + Sync, G: Gate>(&mut self, rt: &R, gate: &G) -> Result<(), Memory>
-        requires { IsWhole self.old.works }
-        ensures whole { IsWhole self.new.works }
-        ensures count { source_count self.new.works ≡ source_count self.old.works }
-        ensures settles { OnOk result (Settles self.old self.new nothing_more) }
-        ensures entries { OnErr result (MakesEntries self.old self.new []) }
-        ensures memory { OnErr result (self.new.failed ≡ true) }
-        ensures stays_failed { OnTrue self.old.failed (IsErr result) }
-    {
-        self.settle_for(rt, gate, 0)
-    }
-
-    /// Settles, and then tells the heartbeat of the output, and that of the inputs with it. Out of
-    /// memory nothing is written, and each later call answers it.
-    pub fn drain<R: Threads + Sync, G: Gate>(&mut self, rt: &R, gate: &G) -> Result<(), Memory>
-        requires { IsWhole self.old.works }
-        ensures whole { IsWhole self.new.works }
-        ensures count { source_count self.new.works ≡ source_count self.old.works }
-        ensures settles { OnOk result ((schemas : List (List Kind)) (plan : Tree)
-            (by_source : Lists) (got : List Sent)
-            → WorksStand self.new.works schemas plan by_source got
-            → Settles self.old self.new (drained (least (source_count self.new.works) by_source))) }
-        ensures entries { OnErr result (MakesEntries self.old self.new []) }
-        ensures memory { OnErr result (self.new.failed ≡ true) }
-        ensures stays_failed { OnTrue self.old.failed (IsErr result) }
-    {
-        self.settle_for(rt, gate, 2)?;
-        self.output.drain(self.works.inputs_beat());
-        Ok(())
-    }
-
-    /// So it is with the heartbeat of the inputs as the caller knows it.
-    pub fn drain_at<R: Threads + Sync, G: Gate>(
-        &mut self,
-        rt: &R,
-        gate: &G,
-        inputs: u64,
-    ) -> Result<(), Memory>
-        requires { IsWhole self.old.works }
-        ensures whole { IsWhole self.new.works }
-        ensures count { source_count self.new.works ≡ source_count self.old.works }
-        ensures settles { OnOk result (Settles self.old self.new (drained inputs)) }
-        ensures entries { OnErr result (MakesEntries self.old self.new []) }
-        ensures memory { OnErr result (self.new.failed ≡ true) }
-        ensures stays_failed { OnTrue self.old.failed (IsErr result) }
-    {
-        self.settle_for(rt, gate, 2)?;
-        self.output.drain(inputs);
         Ok(())
     }
 
@@ -259,7 +201,7 @@ impl Standing {
         requires of_move { TellsMove entry }
         ensures whole { IsWhole self.new.works }
         ensures count { source_count self.new.works ≡ source_count self.old.works }
-        ensures tells { OnOk result (Tells self.old self.new entry) }
+        ensures tells { OnOk result (Tells self.old self.new (entry ∷ [])) }
         ensures entries { OnErr result (MakesEntries self.old self.new []) }
         ensures memory { OnErr result (self.new.failed ≡ true) }
         ensures stays_failed { OnTrue self.old.failed (IsErr result) }
@@ -274,25 +216,46 @@ impl Standing {
         Ok(())
     }
 
-    /// Settles, and then tells that the run has ended, or was stopped. Out of memory nothing is
-    /// written, and each later call answers it.
-    pub fn finish<R: Threads + Sync, G: Gate>(
-        &mut self,
-        rt: &R,
-        gate: &G,
-        stopped: bool,
-    ) -> Result<(), Memory>
+    /// Tells the heartbeat of the output, and that a drain is done with the inputs at this
+    /// heartbeat. Out of memory nothing is told, and each later call answers it.
+    pub fn tell_drain(&mut self, inputs: u64) -> Result<(), Memory>
         requires { IsWhole self.old.works }
         ensures whole { IsWhole self.new.works }
         ensures count { source_count self.new.works ≡ source_count self.old.works }
-        ensures settles { OnOk result
-            (Settles self.old self.new (λ output. last_entry stopped ∷ [])) }
+        ensures tells { OnOk result
+            (Tells self.old self.new (drained inputs self.old.output.beat)) }
         ensures entries { OnErr result (MakesEntries self.old self.new []) }
         ensures memory { OnErr result (self.new.failed ≡ true) }
         ensures stays_failed { OnTrue self.old.failed (IsErr result) }
     {
-        self.settle_for(rt, gate, 1)?;
+        if self.failed {
+            return Err(Memory);
+        }
+        self.failed = true;
+        self.output.reserve(2)?;
+        self.output.drain(inputs);
+        self.failed = false;
+        Ok(())
+    }
+
+    /// Tells that the run has ended, or was stopped. Out of memory nothing is told, and each later
+    /// call answers it.
+    pub fn tell_end(&mut self, stopped: bool) -> Result<(), Memory>
+        requires { IsWhole self.old.works }
+        ensures whole { IsWhole self.new.works }
+        ensures count { source_count self.new.works ≡ source_count self.old.works }
+        ensures tells { OnOk result (Tells self.old self.new (last_entry stopped ∷ [])) }
+        ensures entries { OnErr result (MakesEntries self.old self.new []) }
+        ensures memory { OnErr result (self.new.failed ≡ true) }
+        ensures stays_failed { OnTrue self.old.failed (IsErr result) }
+    {
+        if self.failed {
+            return Err(Memory);
+        }
+        self.failed = true;
+        self.output.reserve(1)?;
         self.output.end(stopped);
+        self.failed = false;
         Ok(())
     }
 
@@ -350,6 +313,7 @@ impl Standing {
         ensures taken { result ≡ self.old.output.entries.items }
         ensures none { self.new.output.entries.items ≡ [] }
         ensures works { self.new.works ≡ self.old.works }
+        ensures beat { self.new.output.beat ≡ self.old.output.beat }
         ensures settled { IsSettled self.old → IsSettled self.new }
         ensures failed { self.new.failed ≡ self.old.failed }
         ensures calm { (schemas : List (List Kind)) (plan : Tree) (rows : Rows) (base : ℕ)

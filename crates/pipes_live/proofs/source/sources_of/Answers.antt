@@ -1,4 +1,4 @@
-use Rattle.std.proofs.Common.{◌≡◌, ℕ, ◌≤◌, ◌<◌, ◌+◌, get_or, length, subst, List, take, refl, arith, sym, ◌∙◌, [], ap}
+use Rattle.std.proofs.Common.{◌<◌, ◌+◌, get_or, length, subst, List, take, arith, sym, ◌∙◌, ap}
 use Rattle.std.proofs.lemmas.List.{take_all}
 use Rattle.pipes_tuple.specs.declared.value.Kind.{Kind}
 use Rattle.pipes_stream.specs.Lawful.{no_messages}

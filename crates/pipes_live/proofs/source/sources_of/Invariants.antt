@@ -1,4 +1,4 @@
-use Rattle.std.proofs.Common.{◌≡◌, take}
+use Rattle.std.proofs.Common.{take}
 use Rattle.pipes_stream.specs.Lawful.{no_messages}
 use Rattle.pipes_live.specs.Lives.{AreSources}
 use Rattle.pipes_live.proofs.source.sources_of.Given as goal

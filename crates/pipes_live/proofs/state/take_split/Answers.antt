@@ -1,4 +1,4 @@
-use Rattle.std.proofs.Common.{◌≡◌, ◌<◌, ℕ, arith, subst, option_to_list}
+use Rattle.std.proofs.Common.{ℕ, arith, subst, option_to_list}
 use Rattle.pipes_halves.specs.Halves.{IsHalved}
 use Rattle.pipes_live.proofs.Taking.{moving-next}
 use Rattle.pipes_live.proofs.state.take_split.Goals as goal

@@ -1,4 +1,5 @@
-use Rattle.pipes_live.proofs.Starting.{sources-count, serves-new}
+use Rattle.pipes_stream.specs.Lawful.{no_messages}
+use Rattle.pipes_live.proofs.Starting.{sources-count, sources-counted, serves-new}
 use Rattle.pipes_live.proofs.live.Live.new.Goals as goal
 
 pub returns-clause-whole : goal.returns-clause-whole
@@ -14,3 +15,7 @@ returns-clause-serves c = λ rows. record {
       (c.in_ok-standing.ensures.calm rows);
   sources = c.in_ok-sources.ensures;
 }
+
+pub returns-clause-count : goal.returns-clause-count
+returns-clause-count c = sources-counted c.args.schemas.now no_messages
+    c.in_ok-sources.sources.items c.in_ok-sources.ensures

@@ -1,4 +1,4 @@
-use Rattle.std.proofs.Common.{refl, ap}
+use Rattle.std.proofs.Common.{ap}
 use Rattle.pipes_standing.specs.declared.standing.Standing.{Standing}
 use Rattle.pipes_moving.proofs.Ending.{calm-after}
 use Rattle.pipes_moving.proofs.moving.Moving.into_standing.Goals as goal

@@ -1,4 +1,4 @@
-use Rattle.pipes_moving.proofs.Ending.{output-ends, output-far}
+use Rattle.pipes_moving.proofs.Ending.{output-ends, output-far, output-below}
 use Rattle.pipes_moving.proofs.moving.Moving.keeps_up.Goals as goal
 
 pub returns-clause-keeps_none : goal.returns-clause-keeps_none
@@ -18,6 +18,15 @@ returns-clause-ends c = λ schemas before after rows base below from entries s o
 pub returns-clause-far : goal.returns-clause-far
 returns-clause-far c = λ schemas before after rows base below from entries s.
     output-far schemas before after rows base below from entries c.args.self.now s
+    c.requires.settled c.held.ensures.merged
+    (c.answers.ensures schemas before below s.old_got s.old)
+    (c.keeps_up.ensures.prompt schemas before below s.old_got s.old)
+    (c.«answers-2».ensures schemas after from s.fresh_got s.fresh)
+    (c.«keeps_up-2».ensures.prompt schemas after from s.fresh_got s.fresh)
+
+pub returns-clause-no_further : goal.returns-clause-no_further
+returns-clause-no_further c = λ schemas before after rows base below from entries s.
+    output-below schemas before after rows base below from entries c.args.self.now s
     c.requires.settled c.held.ensures.merged
     (c.answers.ensures schemas before below s.old_got s.old)
     (c.keeps_up.ensures.prompt schemas before below s.old_got s.old)

@@ -1,5 +1,4 @@
-use Rattle.std.proofs.Common.{◌++◌, [], List, refl, sym, subst, append-nil}
-use Rattle.pipes_output.specs.declared.entry.Entry.{Entry}
+use Rattle.std.proofs.Common.{refl}
 use Rattle.pipes_moving.proofs.Settling.{moving-same}
 use Rattle.pipes_moving.proofs.moving.Moving.take_entries.Goals as goal
 

@@ -1,8 +1,9 @@
-use Rattle.std.proofs.Common.{refl}
-use Rattle.pipes_standing.proofs.Calming.{tells}
+use Rattle.std.proofs.Common.{[], ◌∷◌, refl}
+use Rattle.pipes_standing.proofs.Calming.{tells, no-result}
 use Rattle.pipes_standing.proofs.standing.Standing.tell.Goals as goal
 
 pub returns-clause-tells : goal.returns-clause-tells
 returns-clause-tells c =
-    tells c.args.self.now _ c.reserve.new.self c.args.entry refl refl c.requires.of_move
-    c.in_ok-reserve.ensures.adds c.tell.ensures.adds c.tell.ensures.written
+    tells c.args.self.now _ c.reserve.new.self (c.args.entry ∷ []) refl refl
+    (no-result c.args.entry c.requires.of_move) c.in_ok-reserve.ensures.adds c.tell.ensures.adds
+    c.tell.ensures.written
