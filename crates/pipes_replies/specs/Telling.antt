@@ -1,6 +1,6 @@
 -- What single calls tell, for all that was told before.
 use Rattle.std.specs.Prelude.{◌≡◌, ◌⊎◌, ℕ, ◌≤◌, ◌<◌, List, [], ◌∷◌, map, Bool, true, false}
-use Rattle.std.specs.Prelude.{Option, None, option_to_list, ◌++◌}
+use Rattle.std.specs.Prelude.{Option, None, option_to_list, ◌++◌, ◌+◌, IfSome}
 use Rattle.std.specs.List.{All}
 use Rattle.pipes_time.specs.Interval.{closed}
 use Rattle.pipes_tuple.specs.declared.value.Kind.{Kind}
@@ -17,6 +17,7 @@ use Rattle.pipes_told.specs.Pacing.{least_output, MayFollow, Follow}
 use Rattle.pipes_told.specs.Steep.{steep}
 use Rattle.pipes_replies.specs.declared.replies.Replies.{Replies}
 use Rattle.pipes_replies.specs.declared.replies.Paced.{Paced}
+use Rattle.pipes_replies.specs.declared.stage.Stage.TheVariants.{Calm}
 use Rattle.pipes_replies.specs.Leading.{target, ComesTo}
 use Rattle.pipes_replies.specs.Keeping.{Keeps, KeepsPaced}
 
@@ -105,3 +106,23 @@ TellsEnd r =
     → KeepsPaced r told inputs output → inputs ≡ closed → told.asks ≡ []
     → MayFollow (ComesTo schemas) steep spans told entry.Ended
     × MayFollow (ComesTo schemas) steep spans told entry.Stopped
+
+-- ---- what calls do to the numbers, whatever was told before
+
+-- how many commands had a reply, and the last split, are as before; and none is in progress where
+-- none was
+pub record NumbersStay (old new : Replies) : Type 0 where
+  pub commands : new.commands ≡ old.commands
+  pub last : new.last ≡ old.last
+  pub calm : old.stage ≡ Calm → new.stage ≡ Calm
+
+-- one more had a reply, and else all is as before
+pub record CountsOne (old new : Replies) : Type 0 where
+  pub commands : new.commands ≡ old.commands + 1
+  pub last : new.last ≡ old.last
+  pub stage : new.stage ≡ old.stage
+
+-- what is told is that a migration is idle, and that one is over
+pub record ArePaces (p : Paced) : Type 0 where
+  pub idle : IfSome p.idle (λ e. (number : ℕ) × (e ≡ entry.Idle number))
+  pub over : IfSome p.over (λ e. (number : ℕ) × (e ≡ entry.Over number))

@@ -1,6 +1,6 @@
 // Replies to migrate commands, and what is told of each migration.
-ghost use Rattle.std.specs.Prelude.{◌≡◌, ◌≤◌, ◌<◌, ◌+◌, ◌^◌, [], ℕ, List};
-ghost use Rattle.pipes_replies.specs.Telling.{told_in, over_entries, idle_entries};
+ghost use Rattle.std.specs.Prelude.{◌≡◌, ◌≤◌, ◌<◌, ◌+◌, ◌^◌, [], ℕ, List, false};
+ghost use Rattle.pipes_replies.specs.Telling.{told_in, over_entries, idle_entries, ArePaces};
 ghost use Rattle.pipes_time.specs.Interval.{closed};
 ghost use Rattle.pipes_stream.specs.declared.Elem.{Elem as AnElem};
 ghost use Rattle.pipes_told.specs.Told.{nothing_told};
@@ -26,7 +26,8 @@ pub struct Paced {
 
 // Nothing new.
 fn nothing() -> Paced
-    ensures { told_in result ≡ [] }
+    ensures told { told_in result ≡ [] }
+    ensures paces { ArePaces result }
 {
     Paced {
         idle: None,
@@ -36,7 +37,8 @@ fn nothing() -> Paced
 
 // That the migration with this number is over, and that it is idle where that wasn't told before.
 fn over(was_idle: bool, number: u32) -> Paced
-    ensures { told_in result ≡ over_entries was_idle number }
+    ensures told { told_in result ≡ over_entries was_idle number }
+    ensures paces { ArePaces result }
 {
     let over = Some(Entry::Over(number));
     if was_idle {
@@ -50,7 +52,8 @@ fn over(was_idle: bool, number: u32) -> Paced
 
 // That it is idle, where that wasn't told before.
 fn reached(was_idle: bool, number: u32) -> Paced
-    ensures { told_in result ≡ idle_entries was_idle number }
+    ensures told { told_in result ≡ idle_entries was_idle number }
+    ensures paces { ArePaces result }
 {
     if was_idle {
         return nothing();
@@ -74,7 +77,7 @@ pub struct Replies {
 impl Replies {
     ghost use Rattle.pipes_replies.specs.Keeping.{KeepsPaced, Beside, MayAccept};
     ghost use Rattle.pipes_replies.specs.Telling.{Refuses, Accepts, Paces, TellsResults, TellsDrain};
-    ghost use Rattle.pipes_replies.specs.Telling.{TellsEnd};
+    ghost use Rattle.pipes_replies.specs.Telling.{TellsEnd, NumbersStay, CountsOne};
     ghost use Rattle.pipes_replies.specs.declared.stage.Stage.TheVariants as stage;
     ghost use Rattle.pipes_output.specs.declared.entry.Entry.TheVariants as entry;
     ghost use Rattle.pipes_output.specs.declared.entry.RefusedWhy.TheVariants as why;
@@ -83,6 +86,9 @@ impl Replies {
     pub fn new() -> Replies
         ensures keeps { (plan : Tree) (asks : List (Ask Moved)) (inputs output : ℕ)
             → KeepsPaced result (nothing_told plan asks) inputs output }
+        ensures commands { result.commands ≡ 0 }
+        ensures last { result.last ≡ 0 }
+        ensures calm { result.stage ≡ stage.Calm }
     {
         Replies {
             commands: 0,
@@ -114,6 +120,7 @@ impl Replies {
         requires commands { self.old.commands + 1 < 2 ^ 32 }
         ensures entry { result ≡ entry.Refused self.new.commands why }
         ensures refuses { Refuses self.old self.new why result }
+        ensures numbers { CountsOne self.old self.new }
     {
         self.commands += 1;
         Entry::Refused {
@@ -131,6 +138,9 @@ impl Replies {
         requires within { split ≤ closed }
         ensures entry { result ≡ entry.Accepted self.new.accepted split }
         ensures accepts { Accepts self.old self.new split result }
+        ensures commands { self.new.commands ≡ self.old.commands + 1 }
+        ensures last { self.new.last ≡ split }
+        ensures moving { self.new.stage ≡ stage.Moving split false }
     {
         self.commands += 1;
         self.accepted += 1;
@@ -149,6 +159,8 @@ impl Replies {
         requires within { inputs ≤ closed }
         requires ends { inputs ≡ closed → output ≡ closed }
         ensures paces { Paces self.old self.new inputs output (told_in result) }
+        ensures told { ArePaces result }
+        ensures numbers { NumbersStay self.old self.new }
     {
         let Stage::Moving { split, idle } = self.stage else {
             return nothing();

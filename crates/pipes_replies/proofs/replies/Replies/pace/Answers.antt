@@ -11,16 +11,15 @@ use Rattle.pipes_replies.proofs.replies.Replies.pace.Goals.{
   then-split-output-via-else-split-output+then-inputs-eq-CLOSED,
 }
 
-pub returns-then-inputs-split : goal.returns-then-inputs-split
-returns-then-inputs-split c = record {
-  paces = subst (λ (l : List Entry). Paces c.args.self.now c.args.self.now c.args.inputs
-      c.args.output l) (sym c.nothing-then-inputs-split.ensures)
-      (paces-before c.args.self.now c.args.inputs c.args.output c.in-Moving.split c.in-Moving.idle
-      c.requires.within c.requires.ends c.in-Moving.is c.if-inputs-split.true);
-}
+pub returns-then-inputs-split-clause-paces : goal.returns-then-inputs-split-clause-paces
+returns-then-inputs-split-clause-paces c =
+    subst (λ (l : List Entry). Paces c.args.self.now c.args.self.now c.args.inputs
+    c.args.output l) (sym c.nothing-then-inputs-split.ensures.told)
+    (paces-before c.args.self.now c.args.inputs c.args.output c.in-Moving.split c.in-Moving.idle
+    c.requires.within c.requires.ends c.in-Moving.is c.if-inputs-split.true)
 
-pub returns-then-split-output : goal.returns-then-split-output
-returns-then-split-output c =
+pub returns-then-split-output-clause-paces : goal.returns-then-split-output-clause-paces
+returns-then-split-output-clause-paces c =
     let far : (c.in-Moving.split < c.args.output) ⊎ (c.args.inputs ≡ closed) =
     elim c.then-split-output.branch [
       | then-split-output-via-then-split-output w ↦ inl w.if-split-output.true
@@ -28,23 +27,20 @@ returns-then-split-output c =
           inr w.if-inputs-eq-CLOSED.true
     ] in
     let new : Replies = record c.args.self.now { stage = Calm } in
-    record {
-      paces = subst (λ (l : List Entry). Paces c.args.self.now new c.args.inputs c.args.output l)
-          (sym c.over.ensures)
-          (paces-past c.args.self.now new c.args.inputs c.args.output c.in-Moving.split
-          c.in-Moving.idle c.requires.within c.requires.ends c.in-Moving.is
-          (let reached = c.if-inputs-split.false in omega (arith, reached)) far
-          (record { commands = refl; accepted = refl; last = refl; stage_is = refl }));
-    }
+    subst (λ (l : List Entry). Paces c.args.self.now new c.args.inputs c.args.output l)
+    (sym c.over.ensures.told)
+    (paces-past c.args.self.now new c.args.inputs c.args.output c.in-Moving.split
+    c.in-Moving.idle c.requires.within c.requires.ends c.in-Moving.is
+    (let reached = c.if-inputs-split.false in omega (arith, reached)) far
+    (record { commands = refl; accepted = refl; last = refl; stage_is = refl }))
 
-pub returns : goal.returns
-returns c = let new : Replies = record c.args.self.now { stage = Moving c.in-Moving.split true } in
-    record {
-      paces = subst (λ (l : List Entry). Paces c.args.self.now new c.args.inputs c.args.output l)
-          (sym c.reached.ensures)
-          (paces-reached c.args.self.now new c.args.inputs c.args.output c.in-Moving.split
-          c.in-Moving.idle c.requires.within c.requires.ends c.in-Moving.is
-          (let reached = c.if-inputs-split.false in omega (arith, reached))
-          (record { commands = refl; accepted = refl; last = refl; stage_is = refl })
-          (let low = c.if-split-output.false in omega (arith, low)) c.if-inputs-eq-CLOSED.false);
-    }
+pub returns-clause-paces : goal.returns-clause-paces
+returns-clause-paces c =
+    let new : Replies = record c.args.self.now { stage = Moving c.in-Moving.split true } in
+    subst (λ (l : List Entry). Paces c.args.self.now new c.args.inputs c.args.output l)
+    (sym c.reached.ensures.told)
+    (paces-reached c.args.self.now new c.args.inputs c.args.output c.in-Moving.split
+    c.in-Moving.idle c.requires.within c.requires.ends c.in-Moving.is
+    (let reached = c.if-inputs-split.false in omega (arith, reached))
+    (record { commands = refl; accepted = refl; last = refl; stage_is = refl })
+    (let low = c.if-split-output.false in omega (arith, low)) c.if-inputs-eq-CLOSED.false)

@@ -1,0 +1,13 @@
+pub mod Reading
+pub mod Sources
+pub mod Splits
+pub mod Entries
+pub mod Running
+pub mod Taking
+pub mod Writing
+pub mod Timing
+pub mod Composing
+pub mod Replying
+pub mod Replacing
+pub mod Ending
+pub mod Starting
