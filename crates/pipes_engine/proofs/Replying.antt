@@ -274,7 +274,8 @@ module _ (old new : Serving) (d : Derivation) (cause : RefusedWhy) (f : RefusesI
       beat = f.beat;
       runs = λ query items asks later by_source entries known end p given.
           let r = p.running in
-          let fails_there : FailsAt (schemas_of query) (told_by query asks entries).plan d.steps d.plan
+          let fails_there : FailsAt (schemas_of query) (told_by query asks entries).plan d.steps
+          d.plan
           1 step =
           subst (λ (q : Plan). FailsAt (schemas_of query) q d.steps d.plan 1 step) (sym r.plan_is)
           (subst (λ (ss : List (List Kind)). FailsAt ss old.plan d.steps d.plan 1 step)

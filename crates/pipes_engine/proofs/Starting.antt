@@ -26,7 +26,8 @@ none-given (s ∷ ss) number = none-given ss (number + 1)
 
 pub starts : (s : Serving) (query : Query) → s.schemas ≡ schemas_of query → s.plan ≡ query.plan
     → s.replies.stage ≡ Calm → s.end ≡ 0
-    → ((rows : Rows) → Serves s.live (schemas_of query) query.plan query.plan [] rows no_messages [])
+    → ((rows : Rows)
+    → Serves s.live (schemas_of query) query.plan query.plan [] rows no_messages [])
     → ((plan : Plan) (asks : List (Ask Derivation)) (inputs output : ℕ)
     → KeepsPaced s.replies (nothing_told plan asks) inputs output)
     → (items : List (List Item)) (asks : List (Ask Derivation))
@@ -36,7 +37,8 @@ starts s query schemas plan calm end serves keeps items asks = record {
   later_are = refl;
   plan_is = sym plan;
   serves = subst (λ (p : Plan). Serves s.live (schemas_of query) query.plan p []
-      (bags_at query.sources items) no_messages []) (sym plan) (serves (bags_at query.sources items));
+      (bags_at query.sources items) no_messages []) (sym plan)
+      (serves (bags_at query.sources items));
   inputs = 0;
   output = 0;
   inputs_low = omega arith;

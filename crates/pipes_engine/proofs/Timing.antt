@@ -1,5 +1,6 @@
 -- What is told of the migration in progress.
-use Rattle.std.proofs.Common.{◌≡◌, ◌⊎◌, ◌↔◌, ℕ, ◌≤◌, ◌<◌, Bool, true, false, List, [], ◌∷◌, ◌++◌, length}
+use Rattle.std.proofs.Common.{◌≡◌, ◌⊎◌, ◌↔◌, ℕ, ◌≤◌, ◌<◌, Bool, true, false, List, [], ◌∷◌, ◌++◌}
+use Rattle.std.proofs.Common.{length}
 use Rattle.std.proofs.Common.{inl, inr, refl, sym, ap, subst, ◌∙◌, arith, append-nil}
 use Rattle.std.specs.Bool.{IsTrue}
 use Rattle.pipes_time.specs.Interval.{closed}
@@ -34,7 +35,8 @@ use Rattle.pipes_engine.specs.Parts.{PacesIn, MayPace, DropsOld}
 use Rattle.pipes_engine.proofs.Splits.{HasMove, IsBehind, entries-have, coalesced-same}
 use Rattle.pipes_engine.proofs.Entries.{EachPace, each-pace, no-results, goes-pace, none-pace}
 use Rattle.pipes_engine.proofs.Entries.{SameTold, same-told}
-use Rattle.pipes_engine.proofs.Running.{spans_of, running-on, told-more, sources-count, least-closed}
+use Rattle.pipes_engine.proofs.Running.{spans_of, running-on, told-more, sources-count}
+use Rattle.pipes_engine.proofs.Running.{least-closed}
 
 -- how far it comes once settled, and where the inputs are: laws of `Live`
 abbrev pub KeepsUp : Live → Type 0
@@ -177,7 +179,8 @@ module _ (old new : Serving) (sound : IsSound old) (order : IsInOrder old) (inpu
           known end r given
 
       reaches : Reaches old.live (schemas_of query) old.plan told.earlier known by_source
-      reaches = reached-known old sound up query items asks later by_source entries known end r given
+      reaches = reached-known old sound up query items asks later by_source entries known end r
+          given
 
       step : Follow target (ComesTo (schemas_of query)) steep (spans_of query items) told more
           × KeepsPaced new.replies now_told inputs (beat_now old)

@@ -45,7 +45,8 @@ pub record Rises (old new : Serving) (more : List Entry) : Type 0 where
   pub starts : All (λ e. IsInterval e.span.start e.span.end × (beat_now old ≤ e.span.start))
       (results more)
 
--- what a call replies to, with what is known of the inputs then: to nothing, a drain, or a migration
+-- what a call replies to, with what is known of the inputs then: to nothing, a drain, or a
+-- migration
 abbrev pub Asking : Type 0
 Asking = ℕ → ℕ → List (Ask Derivation)
 

@@ -58,8 +58,8 @@ abbrev pub beat_now : Serving → ℕ
 beat_now s = beat_in s.live.state
 
 -- The query is run, which will have taken these items and is asked for `asks` in all, of which
--- `later` have no reply yet. Each source gave this list, and these entries were made, both since the
--- start of the run.
+-- `later` have no reply yet. Each source gave this list, and these entries were made, both since
+-- the start of the run.
 pub record IsRunning (s : Serving) (query : Query) (items : List (List Item))
     (asks later : List (Ask Derivation)) (by_source : Lists) (entries : List Entry) : Type 0 where
   pub schemas_are : s.schemas ≡ schemas_of query

@@ -1,6 +1,6 @@
 // A query that is run while its plan may be replaced.
-ghost use Rattle.std.specs.Prelude.{◌≡◌, ◌≤◌, ◌<◌, ◌+◌, ◌^◌, [], ℕ, List, length, IfOk, OnOk, OnErr};
-ghost use Rattle.std.specs.Prelude.{IsErr, true};
+ghost use Rattle.std.specs.Prelude.{◌≡◌, ◌≤◌, ◌<◌, ◌+◌, ◌^◌, [], ℕ, List, length, IfOk, OnOk};
+ghost use Rattle.std.specs.Prelude.{OnErr, IsErr, true};
 ghost use Rattle.std.specs.List.{All};
 ghost use Rattle.pipes_stream.specs.Lawful.{Lists, no_messages};
 ghost use Rattle.pipes_plan.specs.PlanKinds.{IsTyped};
@@ -88,8 +88,8 @@ impl Engine {
     }
 
     /// Works until nothing is on its way: makes a result for each element that came to the top, in
-    /// order, and tells of a migration that it is idle or over, where it is. Once it is over its old
-    /// plan is dropped.
+    /// order, and tells of a migration that it is idle or over, where it is. Once it is over its
+    /// old plan is dropped.
     pub fn settle<R: Threads + Sync, G: Gate>(&mut self, rt: &R, gate: &G) -> Result<(), Memory>
         requires whole { IsWholeEngine self.old }
         ensures whole { IsWholeEngine self.new }

@@ -45,7 +45,8 @@ paces-before r inputs output split idle within ends is low schemas spans told be
     climb = (
       tt,
       before-split r told inputs output
-          (keeps-later before behind inputs output rise climb within ends r told k) split idle is low,
+          (keeps-later before behind inputs output rise climb within ends r told k) split idle is
+          low,
     )
 
 -- nothing new: it was told to be idle, and the output has not passed it
@@ -54,7 +55,8 @@ pub paces-behind : (old new : Replies) (inputs output split : ℕ) → inputs �
     → NowAt old new (Moving split true) → output ≤ split → (inputs ≡ closed → ⊥)
     → Paces old new inputs output []
 paces-behind old new inputs output split within ends is now low goes schemas spans told before
-    behind k rise climb = (tt, idle-behind new told inputs output now_kept split now.stage_is low goes)
+    behind k rise climb =
+    (tt, idle-behind new told inputs output now_kept split now.stage_is low goes)
   where
     first : Keeps old told inputs output
     first = keeps-later before behind inputs output rise climb within ends old told k
@@ -177,7 +179,8 @@ behind-each e inputs output (m ∷ ms) past low high =
 pub tells-results : (r : Replies) (elems : List Elem) → TellsResults r elems
 tells-results r [] schemas spans told inputs output k all = (tt, refl)
 tells-results r (e ∷ es) schemas spans told inputs output k all =
-    let first = All-head (λ (e : Elem). (output ≤ e.span.start) × (e.span.start < closed)) e es all in
+    let first =
+    All-head (λ (e : Elem). (output ≤ e.span.start) × (e.span.start < closed)) e es all in
     let rest = tells-results r es schemas spans told inputs output k
     (All-tail (λ (e : Elem). (output ≤ e.span.start) × (e.span.start < closed)) e es all) in (
       (

@@ -136,8 +136,10 @@ module _ {P D : Type 0} (r : Replies) (told : Told P D) (inputs output : ℕ)
       → EachMove (λ m. IsTrue m.over → IsPast inputs output m) ms → inputs < split
       → EachMove (IsPaced inputs output) ms
   each-before split idle [] at past low = tt
-  each-before split idle (m ∷ ms) at past low =
-      (before-paced inputs output split idle m ms at low, each-paced inputs output ms at.others past.1)
+  each-before split idle (m ∷ ms) at past low = (
+    before-paced inputs output split idle m ms at low,
+    each-paced inputs output ms at.others past.1,
+  )
 
   pub before-split : (split : ℕ) (idle : Bool) → r.stage ≡ Moving split idle → inputs < split
       → KeepsPaced r told inputs output
@@ -151,8 +153,10 @@ module _ {P D : Type 0} (r : Replies) (told : Told P D) (inputs output : ℕ)
       → EachMove (λ m. IsTrue m.over → IsPast inputs output m) ms → output ≤ split
       → (inputs ≡ closed → ⊥) → EachMove (IsPaced inputs output) ms
   each-idle split [] at past low goes = tt
-  each-idle split (m ∷ ms) at past low goes =
-      (idle-paced inputs output split m ms at low goes, each-paced inputs output ms at.others past.1)
+  each-idle split (m ∷ ms) at past low goes = (
+    idle-paced inputs output split m ms at low goes,
+    each-paced inputs output ms at.others past.1,
+  )
 
   pub idle-behind : (split : ℕ) → r.stage ≡ Moving split true → output ≤ split
       → (inputs ≡ closed → ⊥) → KeepsPaced r told inputs output

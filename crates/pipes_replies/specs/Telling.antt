@@ -84,7 +84,8 @@ idle_entries false number = entry.Idle number ∷ []
 abbrev pub TellsResults : Replies → List Elem → Type 0
 TellsResults r elems =
     (schemas : List (List Kind)) (spans : List Elem) (told : AllTold) (inputs output : ℕ)
-    → Keeps r told inputs output → All (λ e. (output ≤ e.span.start) × (e.span.start < closed)) elems
+    → Keeps r told inputs output
+    → All (λ e. (output ≤ e.span.start) × (e.span.start < closed)) elems
     → Follow target (ComesTo schemas) steep spans told (map entry.Result elems)
     × (after_entries target told (map entry.Result elems) ≡ told)
 
